@@ -1,0 +1,5 @@
+pub mod Bytes
+pub mod Runs
+pub mod Parts
+pub mod Lines
+pub mod LinesIn

@@ -1,0 +1,6 @@
+pub mod Bytes
+pub mod Runs
+pub mod Lines
+pub mod Parts
+pub mod Spans
+pub mod Examples

@@ -1,0 +1,136 @@
+ghost use mathlib.Core.Path.{_≡_};
+ghost use mathlib.Core.Bool.{false};
+ghost use Prim.Native.Nat.{ℕ, _+_, _≤_, _<_};
+ghost use lib.ListN.{length, getD};
+ghost use Rattle.text.specs.Bytes.{isNonBlank, isNot};
+ghost use Rattle.text.specs.Bytes as spec;
+ghost use Rattle.text.specs.Runs.{run, trimEnd};
+ghost use Rattle.text.specs.Parts.{part};
+ghost use Rattle.text.specs.Spans.{passes};
+
+// A class of bytes.
+pub enum Class {
+    Indent,
+    Blank,
+    NonBlank,
+    Star,
+    Hyphen,
+    Name,
+}
+
+// A byte with its letter made small.
+pub fn lower(b: u8) -> u8
+    ensures { λ r. ⌜ r ≡ spec.lower b ⌝ }
+{
+    if b'A' <= b && b <= b'Z' { b + 32 } else { b }
+}
+
+// Whether a byte is neither blank nor byte 10.
+pub fn is_nonblank(b: u8) -> bool
+    ensures { λ r. ⌜ r ≡ isNonBlank b ⌝ }
+{
+    match b {
+        9 | 10 | 13 | 32 => false,
+        _ => true,
+    }
+}
+
+// Whether a byte is of a class.
+pub fn is_of(b: u8, class: Class) -> bool
+    ensures { λ r. ⌜ r ≡ passes class b ⌝ }
+{
+    match class {
+        Class::Indent => b == 32 || b == 9,
+        Class::Blank => b == 32 || b == 9 || b == 13,
+        Class::NonBlank => is_nonblank(b),
+        Class::Star => b == b'*',
+        Class::Hyphen => b == b'-',
+        Class::Name => is_name(b),
+    }
+}
+
+// The end of the run of bytes of a class from a byte on, up to an end.
+pub fn run_end(text: &[u8], from: usize, to: usize, class: Class) -> usize
+    requires { ⌜ (from ≤ to) × (to ≤ length (now text)) ⌝ }
+    ensures { λ r. ⌜ r ≡ from + length (run (passes class) (part (now (text .entry)) from to)) ⌝ }
+{
+    let mut i = from;
+    while i < to {
+        if !is_of(text[i], class) {
+            return i;
+        }
+        i += 1;
+    }
+    i
+}
+
+// One past the last non-blank byte from a byte up to an end, or that byte where there is none.
+pub fn trim_end(text: &[u8], from: usize, to: usize) -> usize
+    requires { ⌜ (from ≤ to) × (to ≤ length (now text)) ⌝ }
+    ensures { λ r. ⌜ r ≡ from + length (trimEnd (part (now (text .entry)) from to)) ⌝ }
+{
+    let mut i = to;
+    while from < i {
+        if is_nonblank(text[i - 1]) {
+            return i;
+        }
+        i -= 1;
+    }
+    i
+}
+
+// Whether one of the 16 bytes from a byte on is b. With no way out early the loop is a handful of vector instructions.
+fn has_byte(text: &[u8], at: usize, b: u8) -> bool
+    requires { ⌜ at + 16 ≤ length (now text) ⌝ }
+    ensures { λ r. ⌜ (r ≡ false → (k : ℕ) → k < 16 → getD (now (text .entry)) (at + k) 0 ≡ b → ⊥) ⌝ }
+{
+    let mut found = false;
+    let mut j = 0;
+    while j < 16 {
+        if text[at + j] == b {
+            found = true;
+        }
+        j += 1;
+    }
+    found
+}
+
+// The first byte b from a byte on, or the end.
+pub fn find_byte(text: &[u8], from: usize, to: usize, b: u8) -> usize
+    requires { ⌜ (from ≤ to) × (to ≤ length (now text)) ⌝ }
+    ensures { λ r. ⌜ r ≡ from + length (run (isNot b) (part (now (text .entry)) from to)) ⌝ }
+{
+    let mut i = skip_blocks(text, from, to, b);
+    while i < to {
+        if text[i] == b {
+            return i;
+        }
+        i += 1;
+    }
+    i
+}
+
+// Past the blocks of 16 bytes from a byte on in which b is not.
+fn skip_blocks(text: &[u8], from: usize, to: usize, b: u8) -> usize
+    requires { ⌜ (from ≤ to) × (to ≤ length (now text)) ⌝ }
+    ensures { λ r. ⌜ (from ≤ r) × (r ≤ to) × (r + length (run (isNot b) (part (now (text .entry)) r to)) ≡ from + length (run (isNot b) (part (now (text .entry)) from to))) ⌝ }
+{
+    let mut i = from;
+    while 16 <= to - i {
+        if has_byte(text, i, b) {
+            return i;
+        }
+        i += 16;
+    }
+    i
+}
+
+// Whether a byte is a letter, a digit, `-` or `_`.
+fn is_name(b: u8) -> bool
+    ensures { λ r. ⌜ r ≡ spec.isNameByte b ⌝ }
+{
+    match b {
+        b'a'..=b'z' | b'A'..=b'Z' | b'0'..=b'9' | b'-' | b'_' => true,
+        _ => false,
+    }
+}
