@@ -3,3 +3,4 @@ pub mod Runs
 pub mod Parts
 pub mod Lines
 pub mod LinesIn
+pub mod LineStarts

@@ -4,3 +4,5 @@ pub mod Lines
 pub mod Parts
 pub mod Spans
 pub mod Examples
+pub mod Cases
+pub mod Pinned

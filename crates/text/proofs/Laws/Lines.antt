@@ -191,6 +191,14 @@ leading-add f g (l ∷ ls) n = cases (f l)
     (λ h. rw (h, n l h, leading) (omega (arith, leading-add f g ls n)))
     (λ h. rw (h, leading) (omega arith))
 
+pub leading-drop : (f : Line → Bool) (n : ℕ) (ls : List Line) → n ≤ leading f ls → leading f ls ≡ n + leading f (drop n ls)
+unfolding leading
+leading-drop f zero ls h = rw zero-add
+leading-drop f (suc n) [] h = absurd (omega arith)
+leading-drop f (suc n) (l ∷ ls) h = cases (f l)
+    (λ i. let z = rw (i, leading) at h in rw (i, leading) (omega (arith, leading-drop f n ls (omega arith))))
+    (λ i. absurd (let z = rw (i, leading) at h in omega arith))
+
 -- the leading lines pass, and the first after them does not
 pub leading-before : (f : Line → Bool) (ls : List Line) (j : ℕ) → j < leading f ls → f (headLine (drop j ls)) ≡ true
 unfolding leading headLine

@@ -123,6 +123,16 @@ module _ (s : List ℕ) (p e : ℕ) (h : p ≤ e) (k : e ≤ length s) where
   pub lineIn-to : p + length (lineIn s p e) ≤ e
   lineIn-to = lineIn-le s p e h
 
+-- more lines are more bytes
+pub more-linesIn : (s : List ℕ) (p e m n : ℕ) → e ≤ length s → let ls = linesIn s p e in m < n → m < length ls → size (take m ls) < size (take n ls)
+more-linesIn s p e m n h i j =
+    let ls = linesIn s p e in
+    let q = p + size (take m ls) in
+    let d = linesIn-drop s p e m in
+    let to = not-le e q (λ l. omega (arith, length-drop m ls, ap length (sym d ∙ linesIn-nil s q e l))) in
+    let one = rw d at (some-linesIn s q e (omega arith) h 1 to (omega arith)) in
+    omega (arith, size-take-add m 1 ls, size-take-mono (m + 1) n ls (omega arith))
+
 -- the first n lines
 pub linesIn-take : (s : List ℕ) (p e n : ℕ) → p ≤ e → e ≤ length s → linesIn s p (p + size (take n (linesIn s p e))) ≡ take n (linesIn s p e)
 unfolding linesIn
@@ -174,19 +184,19 @@ module _ (s : List ℕ) (p e : ℕ) where
 
 -- ---- past the leading lines that pass a test
 
-abbrev past : (Line → Bool) → List ℕ → ℕ → ℕ → ℕ
+abbrev pub past : (Line → Bool) → List ℕ → ℕ → ℕ → ℕ
 past f s p e = let ls = linesIn s p e in p + size (take (leading f ls) ls)
 
 module _ (f : Line → Bool) (s : List ℕ) (p e : ℕ) where
-  past-none : e ≤ p → past f s p e ≡ p
+  pub past-none : e ≤ p → past f s p e ≡ p
   unfolding size
   past-none h = rw (linesIn-nil s p e h, take-nil (leading f [])) (omega arith)
 
-  past-here : f (lineIn s p e) ≡ false → past f s p e ≡ p
+  pub past-here : f (lineIn s p e) ≡ false → past f s p e ≡ p
   unfolding lineIn size
   past-here h = rw (leading-zero f (linesIn s p e) h) (omega arith)
 
-  past-skip : f (lineIn s p e) ≡ true → past f s p e ≡ past f s (p + length (lineIn s p e)) e
+  pub past-skip : f (lineIn s p e) ≡ true → past f s p e ≡ past f s (p + length (lineIn s p e)) e
   unfolding lineIn
   past-skip h = rw (linesIn-next s p e) (omega (arith, leading-one f (linesIn s p e) h))
 

@@ -154,6 +154,16 @@ run-part-skip f s (suc n) p e a b h =
     let q : p + suc n ≡ p + 1 + n = omega arith in
     rw q (omega (arith, first, rest))
 
+-- each byte of a run passes
+pub run-part-all : (f : ℕ → Bool) (s : List ℕ) (k p e : ℕ) → p + k < e → e ≤ length s → k < length (run f (part s p e)) → f (getD s (p + k) 0) ≡ true
+run-part-all f s zero p e a b h =
+    cases (f (getD s p 0)) (λ t. rw (add-zero p) t) (λ t. absurd (omega (arith, run-part-none s p e (omega arith) b f t)))
+run-part-all f s (suc k) p e a b h = cases (f (getD s p 0))
+    (λ t. let q : p + 1 + k ≡ p + suc k = omega arith in
+    let rest = run-part-cons s p e (omega arith) b f t in
+    rw q at (run-part-all f s k (p + 1) e (omega arith) b (omega arith)))
+    (λ t. absurd (omega (arith, run-part-none s p e (omega arith) b f t)))
+
 -- ---- words against a part of a text: a word's bytes from place j on
 
 module _ (s w : List ℕ) (p e j : ℕ) where

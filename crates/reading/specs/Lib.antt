@@ -1,0 +1,11 @@
+pub mod Records
+pub mod Sections
+pub mod Proper
+pub mod Makers
+pub mod Reading
+pub mod Nesting
+pub mod Answers
+pub mod Promises
+pub mod Samples
+pub mod Pinned
+pub mod Walk

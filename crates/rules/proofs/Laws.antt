@@ -1,0 +1,12 @@
+pub mod Headings
+pub mod NextHeading
+pub mod Places
+pub mod Elements
+pub mod LineOf
+pub mod LineGroups
+pub mod Named
+pub mod NoEnds
+pub mod Spans
+pub mod Colons
+pub mod LineRuns
+pub mod Rules
