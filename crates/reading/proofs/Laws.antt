@@ -17,3 +17,4 @@ pub mod NextPlaces
 pub mod Ranges
 pub mod SectionPlaces
 pub mod Tracked
+pub mod Holders

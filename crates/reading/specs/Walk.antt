@@ -158,6 +158,7 @@ pub record ElementIn (s : List ℕ) (p b : ℕ) (e : Element) : Type 0 where
   pub some : p < b
   pub text : b ≤ length s
   pub limit : length s ≤ 65536
+  pub low : Kind.planning ≤ e .kind
   pub kind : e .kind ≤ 16
   pub order : e .from ≤ e .to
   pub from : p ≤ e .from

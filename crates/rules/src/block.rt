@@ -1,1 +1,91 @@
+ghost use mathlib.Core.Path.{_≡_};
+ghost use Prim.Native.Nat.{_≤_};
+ghost use lib.ListN.{length};
+ghost use Rattle.text.specs.Parts.{linesIn, part};
+ghost use Rattle.rules.specs.Names.{numberIn};
+ghost use Rattle.rules.specs.Elements.{block, verbatimNames, greaterDetail};
+ghost use Rattle.rules.specs.Findings.{LineOf, ruleAt};
+use crate::closer::Closer;
+use crate::closer::find_closer;
+use crate::element::Element;
+use crate::element::Rule;
+use crate::kind;
+use text::bytes::Class;
+use text::bytes::run_end;
+use text::line::LineSpan;
+use text::word::begins_with;
+use text::word::is_word;
 
+// The detail of the verbatim block of a name; 0 where the name is none of the five.
+fn verbatim_detail(text: &[u8], from: usize, to: usize) -> usize
+    requires { ⌜ (from ≤ to) × (to ≤ length (now text)) ⌝ }
+    ensures { λ r. ⌜ r ≡ numberIn verbatimNames 1 (part (now (text .entry)) from to) ⌝ }
+{
+    if is_word(text, from, to, b"comment") {
+        return 1;
+    }
+    if is_word(text, from, to, b"example") {
+        return 2;
+    }
+    if is_word(text, from, to, b"export") {
+        return 3;
+    }
+    if is_word(text, from, to, b"src") {
+        return 4;
+    }
+    if is_word(text, from, to, b"verse") {
+        return 5;
+    }
+    0
+}
+
+// The detail of the greater block of a name.
+fn greater_detail(text: &[u8], from: usize, to: usize) -> usize
+    requires { ⌜ (from ≤ to) × (to ≤ length (now text)) ⌝ }
+    ensures { λ r. ⌜ r ≡ greaterDetail (part (now (text .entry)) from to) ⌝ }
+{
+    if is_word(text, from, to, b"quote") {
+        return 1;
+    }
+    if is_word(text, from, to, b"center") {
+        return 2;
+    }
+    3
+}
+
+// A block, where its closer stands before the end.  [01 rule 3]
+pub fn try_block(text: &[u8], line: LineSpan, to: usize) -> Rule
+    requires { ⌜ LineOf (now text) line to ⌝ }
+    ensures { λ r. ⌜ r ≡ ruleAt (line .start) (linesIn (now (text .entry)) (line .start) to) (block (linesIn (now (text .entry)) (line .start) to)) ⌝ }
+{
+    if !begins_with(text, line.from, line.to, b"#+begin_") {
+        return Rule::Fails;
+    }
+    let name = line.from + 8;
+    let name_end = run_end(text, name, line.to, Class::NonBlank);
+    if name_end == name {
+        return Rule::Fails;
+    }
+    let inner = line.end;
+    let Closer::At(close, end) = find_closer(text, inner, to, b"#+end_", &text[name..name_end])
+    else {
+        return Rule::Fails;
+    };
+    let verbatim = verbatim_detail(text, name, name_end);
+    if 0 < verbatim {
+        return Rule::Holds(Element {
+            kind: kind::VERBATIM_BLOCK,
+            end: end,
+            from: inner,
+            to: close,
+            detail: verbatim,
+        });
+    }
+    Rule::Holds(Element {
+        kind: kind::GREATER_BLOCK,
+        end: end,
+        from: inner,
+        to: close,
+        detail: greater_detail(text, name, name_end),
+    })
+}

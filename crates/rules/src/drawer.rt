@@ -1,1 +1,93 @@
+ghost use mathlib.Core.Path.{_≡_};
+ghost use mathlib.Core.Bool.{false};
+ghost use Rattle.text.specs.Parts.{linesIn, lineIn};
+ghost use Rattle.rules.specs.Places.{allowsProperties};
+ghost use Rattle.rules.specs.LineTests.{isDrawerLine};
+ghost use Rattle.rules.specs.Elements.{drawer, propertyDrawer};
+ghost use Rattle.rules.specs.Findings.{LineOf, NoEnd, ruleAt};
+use crate::closer::Closer;
+use crate::closer::find_end;
+use crate::element::Element;
+use crate::element::Rule;
+use crate::kind;
+use crate::place::Place;
+use crate::property::find_properties_end;
+use crate::property::is_between_colons;
+use text::bytes::Class;
+use text::bytes::run_end;
+use text::line::LineSpan;
+use text::word::is_word;
 
+// Whether a place allows a property drawer.
+fn allows_properties(place: Place) -> bool
+    ensures { λ r. ⌜ r ≡ allowsProperties place ⌝ }
+{
+    match place {
+        Place::Elsewhere => false,
+        _ => true,
+    }
+}
+
+// A property drawer: node property lines only, up to the first `:END:`.  [01 rule 2]
+pub fn try_property_drawer(text: &[u8], line: LineSpan, to: usize, place: Place) -> Rule
+    requires { ⌜ LineOf (now text) line to ⌝ }
+    ensures { λ r. ⌜ r ≡ ruleAt (line .start) (linesIn (now (text .entry)) (line .start) to) (propertyDrawer place (linesIn (now (text .entry)) (line .start) to)) ⌝ }
+{
+    if !allows_properties(place) {
+        return Rule::Fails;
+    }
+    if !is_word(text, line.from, line.to, b":properties:") {
+        return Rule::Fails;
+    }
+    let inner = line.end;
+    let Closer::At(close, end) = find_properties_end(text, inner, to) else {
+        return Rule::Fails;
+    };
+    Rule::Holds(Element {
+        kind: kind::PROPERTY_DRAWER,
+        end: end,
+        from: inner,
+        to: close,
+        detail: 0,
+    })
+}
+
+// Whether a line's body is `:NAME:`, and NAME is not `END`.
+fn is_drawer_line(text: &[u8], line: LineSpan, to: usize) -> bool
+    requires { ⌜ LineOf (now text) line to ⌝ }
+    ensures { λ r. ⌜ r ≡ isDrawerLine (lineIn (now (text .entry)) (line .start) to) ⌝ }
+{
+    let from = line.from;
+    let end = line.to;
+    if !is_between_colons(text, from, end) {
+        return false;
+    }
+    if run_end(text, from + 1, end - 1, Class::Name) < end - 1 {
+        return false;
+    }
+    !is_word(text, from + 1, end - 1, b"end")
+}
+
+// A drawer, where an `:END:` line stands before the end. `ends` is false only where it is known that none does.  [01 rule 4]
+pub fn try_drawer(text: &[u8], line: LineSpan, to: usize, ends: bool) -> Rule
+    requires { ⌜ LineOf (now text) line to × (ends ≡ false → NoEnd (now text) (line .end) to) ⌝ }
+    ensures { λ r. ⌜ r ≡ ruleAt (line .start) (linesIn (now (text .entry)) (line .start) to) (drawer (linesIn (now (text .entry)) (line .start) to)) ⌝ }
+{
+    if !ends {
+        return Rule::Fails;
+    }
+    if !is_drawer_line(text, line, to) {
+        return Rule::Fails;
+    }
+    let inner = line.end;
+    let Closer::At(close, end) = find_end(text, inner, to) else {
+        return Rule::Fails;
+    };
+    Rule::Holds(Element {
+        kind: kind::DRAWER,
+        end: end,
+        from: inner,
+        to: close,
+        detail: 0,
+    })
+}

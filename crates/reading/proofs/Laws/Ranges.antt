@@ -226,6 +226,7 @@ module _ (s : List ℕ) (p e : ℕ) (R : Range s p e) (h : p < e) where
         some = omega (arith, end-some, next-from);
         text = omega (arith, next-to, R .text);
         limit = R .limit;
+        low = fine .low;
         kind = fine .high;
         order = j;
         from = i;

@@ -2,11 +2,13 @@
 -- heading line is at the place after a heading, and the record that the walk makes at a heading line is the heading's.
 -- From Ranges and NextPlaces.
 -- Assumes nothing.
-use mathlib.Core.Path.{_≡_, ap, _∙_}
+use mathlib.Core.Path.{_≡_, sym, ap, _∙_}
 use mathlib.Core.List.{List, []}
 use Prim.Native.Nat.{ℕ, _+_, _≤_, _<_}
 use native.Mathlib.Omega.{arith}
 use lib.ListN.{length, take}
+use lib.Dec.{ltb}
+use borrow.Author.Tests.{lt-ltb, le-ltb}
 use Rattle.text.specs.Lines.{size}
 use Rattle.text.specs.Parts.{linesIn, lineIn, firstLine, nextLine, LineStart}
 use Rattle.text.proofs.Laws.Lines.{size-headLine}
@@ -16,13 +18,15 @@ use Rattle.text.proofs.Laws.LineStarts.{lineStart-to, lineStart-more, lineStart
 use Rattle.rules.specs.Kind
 use Rattle.rules.specs.Headings.{isHeading, isHeadingUpTo, stars, headingStars}
 use Rattle.rules.specs.Places.{placeFrom, placeAt}
+use Rattle.rules.specs.declared.place.Place.{Place}
 use Rattle.rules.specs.declared.place.Place.the-variants.{AfterHeading}
 use Rattle.rules.proofs.Laws.Headings.{stars-some, stars-lt, headingStars-yes, upTo-heading}
 use Rattle.rules.proofs.Laws.Places.{placeFrom-cons, placeNext-heading, placeAt-more}
 use Rattle.reading.specs.Records.{rec}
 use Rattle.reading.specs.Sections.{lineAt, sectionEnd}
 use Rattle.reading.specs.Makers.{headingRecord}
-use Rattle.reading.specs.Walk.{Range, HeadingOrEnd, afterBlank}
+use Rattle.reading.specs.Walk.{Range, HeadingOrEnd, HeadingLine, firstPlace}
+use Rattle.reading.proofs.Basics.{split}
 use Rattle.reading.proofs.Laws.NextPlaces.{placeAt-first}
 use Rattle.reading.proofs.Laws.Ranges.{range-of}
 
@@ -47,11 +51,11 @@ module _ (s : List ℕ) (p e : ℕ) (limit : length s ≤ 65536) (start : LineSt
         let (k, l) = section-first in
         range-of s p a e limit start (rw first (lineStart-first s p e start end-start i)) end-start k l (omega arith) (rw first (firstLine-twice s p e))
 
-    pub section-place : p < a → placeAt s a ≡ afterBlank (placeAt s p)
-    section-place h = rw first (placeAt-first s p e start end-start (section-end .0) (omega arith))
-
-    pub section-place-here : a ≤ p → placeAt s a ≡ placeAt s p
-    section-place-here h = let i : a ≡ p = omega (arith, section-first) in ap (placeAt s) i
+    -- the place of the first line, at place pl where no line is blank
+    pub section-place : (pl : Place) → pl ≡ placeAt s p → firstPlace pl (ltb p a) ≡ placeAt s a
+    section-place pl here = rw here (split p a
+        (λ h. rw (lt-ltb p a h, first) (sym (placeAt-first s p e start end-start (section-end .0) (rw first at h))))
+        (λ h. let i : p ≡ a = omega (arith, section-first) in rw (le-ltb p a h) (ap (placeAt s) i)))
 
 -- ---- a heading at byte p, or the text's end
 
@@ -74,7 +78,7 @@ module _ (s : List ℕ) (p : ℕ) (H : HeadingOrEnd s p) (h : p < length s) wher
     pub heading-stars : m ≡ stars (lineAt s p)
     heading-stars = many ∙ headingStars-yes (lineAt s p) (H .heading h)
 
-    pub heading-stars-le : m ≤ length s
+    heading-stars-le : m ≤ length s
     heading-stars-le = omega (arith, heading-stars, stars-lt (lineAt s p) (H .heading h), line-to)
 
   -- its line ends at byte i
@@ -108,3 +112,13 @@ module _ (s : List ℕ) (p : ℕ) (H : HeadingOrEnd s p) (h : p < length s) wher
     pub heading-next : (q : ℕ) → sectionEnd s (headingRecord s q p) ≡ nextLine isHeading s i
     unfolding headingRecord sectionEnd
     heading-next q = rw end
+
+pub headingLine-order : {s : List ℕ} {p i e m : ℕ} → HeadingLine s p i e m → (p + 2 ≤ i) × (i ≤ e) × (e ≤ length s) × (m ≤ length s)
+headingLine-order {s} {p} {i} {e} {m} l =
+    let start = heading-start s p (l .here) (l .some) i (l .end) in
+    omega (
+      arith,
+      heading-line s p (l .here) (l .some) i (l .end),
+      section-end s i e (l .here .limit) start (l .next),
+      heading-stars-le s p (l .here) (l .some) m (l .stars),
+    )

@@ -10,8 +10,11 @@ use Prim.Native.Nat.{ℕ, _+_, _*_, _≤_, _<_}
 use native.Mathlib.Omega.{arith}
 use lib.ListN.{length, getD}
 use borrow.Table.Steps.{cases}
+use Rattle.rules.specs.Headings.{stars}
 use Rattle.reading.specs.declared.record.Record.{Record}
 use Rattle.reading.specs.Records.{rec}
+use Rattle.reading.specs.Sections.{lineAt}
+use Rattle.reading.specs.Makers.{headingRecord}
 use Rattle.reading.specs.Reading.{nearest}
 use Rattle.reading.specs.Walk.{Entry, entry, State, absorb, absorbed, parentIn}
 use Rattle.reading.proofs.Basics.{on, split}
@@ -28,7 +31,7 @@ pub tracked-none : (st : State) → Tracked st []
 tracked-none st = record { linked = λ w g. linked-nil; after = λ g. inl refl }
 
 -- the record of a heading with m stars, with the parent q that the table gives
-pub tracked-record : {st : State} {hs : Earlier} → Tracked st hs → (k p e i j q m d : ℕ)
+tracked-record : {st : State} {hs : Earlier} → Tracked st hs → (k p e i j q m d : ℕ)
     → (st .sink .writing ≡ true → q ≡ parentIn (st .tab) (lastIndex hs) m)
     → absorb st (entry (rec k p e i j q m) d) ≡ absorb st (entry (rec k p e i j (nearest m hs) m) d)
 tracked-record {st} {hs} h k p e i j q m d found = cases (st .sink .writing)
@@ -36,6 +39,12 @@ tracked-record {st} {hs} h k p e i j q m d found = cases (st .sink .writing)
     (absorb-any-stopped st _ _ d)
     (λ g. ap (λ (q : ℕ). absorb st (entry (rec k p e i j q m) d)) (found w ∙ linked-parent m (h .linked w g))))
     (absorb-any st _ _ d)
+
+pub tracked-heading : {st : State} {hs : Earlier} → Tracked st hs → (s : List ℕ) (p q : ℕ) → let m = stars (lineAt s p) in
+    (st .sink .writing ≡ true → q ≡ parentIn (st .tab) (lastIndex hs) m)
+    → absorb st (entry (headingRecord s q p) 0) ≡ absorb st (entry (headingRecord s (nearest m hs) p) 0)
+unfolding headingRecord
+tracked-heading h s p q found = tracked-record h _ _ _ _ _ q _ 0 found
 
 -- a heading of index k, and all that its section holds, after the earlier ones
 linked-next : {t t′ : List ℕ} {hs : Earlier} (k m : ℕ) → Linked t hs → (hs ≡ []) ⊎ (lastIndex hs < k)

@@ -115,21 +115,24 @@ section-turn s p q st st₁ h a =
     let k = st .sink .count in
     absorb-then st _ (entriesFrom s (elementsTo e) k 0 b) a ∙ rw (sectionEntries-some s p q k h)
 
-pub heading-turn : (s : List ℕ) (hs : List (ℕ × ℕ)) (p : ℕ) (st st₁ st₂ : State) → p < length s
+-- the heading at byte p, and its section, which ends at byte e
+pub heading-turn : (s : List ℕ) (hs : List (ℕ × ℕ)) (p e : ℕ) (st st₁ st₂ : State) → p < length s
     → let m = stars (lineAt s p) in let h = headingRecord s (nearest m hs) p in
-    st₁ ≡ absorb st (entry h 0)
+    e ≡ sectionEnd s h
+    → st₁ ≡ absorb st (entry h 0)
     → st₂ ≡ absorbed st₁ (sectionEntries s (sectionOf (h .from)) (st .sink .count) (st₁ .sink .count))
-    → absorbed st₂ (headingsFrom s ((st .sink .count, m) ∷ hs) (sectionEnd s h) (st₂ .sink .count)) ≡ absorbed st (headingsFrom s hs p (st .sink .count))
-heading-turn s hs p st st₁ st₂ l a b =
+    → absorbed st₂ (headingsFrom s ((st .sink .count, m) ∷ hs) e (st₂ .sink .count)) ≡ absorbed st (headingsFrom s hs p (st .sink .count))
+heading-turn s hs p e st st₁ st₂ l next a b =
     let m = stars (lineAt s p) in
     let h = headingRecord s (nearest m hs) p in
     let k = st .sink .count in
     let hs′ : List (ℕ × ℕ) = (k, m) ∷ hs in
     let f : ℕ → List Entry = λ n. headingsFrom s hs′ (sectionEnd s h) n in
     let g : ℕ → List Entry = λ n. sectionEntries s h k n in
-    absorbed-then st₁ (g (st₁ .sink .count)) f (rw (sectionEntries-same s h k (st₁ .sink .count)) b)
+    rw next
+    (absorbed-then st₁ (g (st₁ .sink .count)) f (rw (sectionEntries-same s h k (st₁ .sink .count)) b)
     ∙ absorb-then st (entry h 0) (λ n. g n ++ f (n + length (g n))) a
-    ∙ rw (headingsFrom-step s hs p k l)
+    ∙ rw (headingsFrom-step s hs p k l))
 
 pub reading-turn : (s : List ℕ) (st st₁ st₂ : State) → st .sink .count ≡ 0 → st₁ ≡ absorb st (entry (documentRecord s) 0)
     → st₂ ≡ absorbed st₁ (sectionEntries s (sectionOf 0) 0 (st₁ .sink .count))

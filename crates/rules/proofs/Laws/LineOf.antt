@@ -13,9 +13,13 @@ use Rattle.text.proofs.Laws.Lines.{bodyEnd-from, bodyEnd-le}
 use Rattle.text.proofs.Laws.LinesIn.{lineIn-some, lineIn-to, linesIn-step, body-part}
 use Rattle.rules.specs.Findings.{LineOf}
 
-lineSpan-start : (s : List ℕ) (l : LineSpan) (p e : ℕ) → l ≡ lineSpan s p e → l .start ≡ p
+pub lineSpan-start : (s : List ℕ) (l : LineSpan) (p e : ℕ) → l ≡ lineSpan s p e → l .start ≡ p
 unfolding lineSpan
 lineSpan-start s l p e eq = ap (λ (x : LineSpan). x .start) eq
+
+pub lineSpan-end : (s : List ℕ) (l : LineSpan) (p e : ℕ) → l ≡ lineSpan s p e → l .end ≡ p + length (lineIn s p e)
+unfolding lineSpan
+lineSpan-end s l p e eq = ap (λ (x : LineSpan). x .end) eq
 
 -- what `line_at` answers is a line of the text
 pub lineOf : (s : List ℕ) (l : LineSpan) (p e : ℕ) → p < e → e ≤ length s → l ≡ lineSpan s p e → LineOf s l e

@@ -3,7 +3,7 @@
 use mathlib.Core.Path.{_≡_, sym, ap}
 use mathlib.Core.Bool.{Bool, true, false}
 use mathlib.Core.List.{List}
-use Prim.Native.Nat.{ℕ, _+_, _≤_, _<_}
+use Prim.Native.Nat.{ℕ, _+_, _≤_}
 use native.Mathlib.Omega.{arith}
 use lib.ListN.{length, take, drop}
 use Rattle.text.specs.Lines.{Line, size, tailLines, leading}
@@ -14,25 +14,18 @@ use Rattle.text.proofs.Laws.Lines.{size-take-add}
 use Rattle.text.proofs.Laws.LinesIn.{within-linesIn, linesIn-drop, past, past-here, past-skip}
 use Rattle.rules.specs.Elements.{lineAnd}
 use Rattle.rules.specs.Findings.{LineOf}
-use Rattle.rules.proofs.Laws.LineOf.{lineOf, lineOf-order, lineOf-end, lineOf-lines}
+use Rattle.rules.proofs.Laws.LineOf.{lineSpan-start, lineOf-end, lineOf-lines}
 
 -- ---- a turn of a loop over lines: the line l that `line_at` answers at byte p
 
 module _ (s : List ℕ) (l : LineSpan) (p e : ℕ) (h : l ≡ lineSpan s p e) where
-  lineSpan-start : l .start ≡ p
-  unfolding lineSpan
-  lineSpan-start = ap (λ (x : LineSpan). x .start) h
-
-  pub lineSpan-next : p < e → e ≤ length s → (p < l .end) × (l .end ≤ e)
-  lineSpan-next i k = omega (arith, lineSpan-start, lineOf-order s l e (lineOf s l p e i k h))
-
   module _ (f : Line → Bool) where
     pub past-line-here : f (lineIn s (l .start) e) ≡ false → past f s p e ≡ p
-    past-line-here i = past-here f s p e (rw lineSpan-start at i)
+    past-line-here i = past-here f s p e (rw (lineSpan-start s l p e h) at i)
 
     pub past-line-skip : f (lineIn s (l .start) e) ≡ true → past f s (l .end) e ≡ past f s p e
     unfolding lineSpan
-    past-line-skip i = rw (ap (λ (x : LineSpan). x .end) h) (sym (past-skip f s p e (rw lineSpan-start at i)))
+    past-line-skip i = rw (ap (λ (x : LineSpan). x .end) h) (sym (past-skip f s p e (rw (lineSpan-start s l p e h) at i)))
 
 -- ---- the end of the lines that a rule counts
 

@@ -1,29 +1,32 @@
--- Laws of `ruleAt` and `spanned`: what rules 5 to 9 answer at a line l of the text up to byte e, told by bytes.
+-- Laws of `ruleAt` and `spanned`: what rules 1 and 5 to 9 answer at a line l of the text up to byte e, told by bytes.
 -- Assumes nothing.
 use mathlib.Core.Path.{_≡_, refl, sym, ap, _∙_}
-use mathlib.Core.Bool.{Bool, true, false, and-false}
+use mathlib.Core.Bool.{Bool, true, false, _&&_, and-false, _&&_}
 use mathlib.Core.List.{List}
 use Prim.Native.Nat.{ℕ, _+_, _-_, _≤_, _<_}
 use native.Mathlib.Omega.{arith}
-use lib.ListN.{length, drop, length-drop}
+use lib.ListN.{length, take, drop, length-drop}
 use borrow.Author.Tests.{le-leb, lt-leb, eq-eqb, ne-eqb}
 use Rattle.text.specs.Bytes.{isBlank, isNonBlank, isHyphen}
 use Rattle.text.specs.Runs.{word, run, begins}
-use Rattle.text.specs.Lines.{Line, size, body, bodyEnd, firstRun, valueStart, headLine, leading}
+use Rattle.text.specs.Lines.{Line, size, body, bodyEnd, valueStart, headLine, leading}
 use Rattle.text.specs.Parts.{part, linesIn, lineIn}
 use Rattle.text.specs.declared.line.LineSpan.{LineSpan}
-use Rattle.text.proofs.Laws.Parts.{part-drop, part-take, part-length}
-use Rattle.text.proofs.Laws.Runs.{run-take, run-length-le, afterRun-drop, all-run}
+use Rattle.text.proofs.Laws.Parts.{part-drop, part-length}
+use Rattle.text.proofs.Laws.Runs.{run-length-le, afterRun-drop, all-run}
 use Rattle.text.proofs.Laws.LinesIn.{past}
 use Rattle.rules.specs.Kind
 use Rattle.rules.specs.Names.{throughColon}
-use Rattle.rules.specs.LineTests.{isRow, isFormula, isComment, isFixedWidth, isHyphens, keywordMarker, isKeyword}
-use Rattle.rules.specs.Elements.{Found, found, when, lineAnd, rowLines, table, comment, fixedWidth, horizontalRule, keyword}
+use Rattle.rules.specs.LineTests.{isPlanning, isRow, isFormula, isComment, isFixedWidth, isHyphens, keywordMarker, isKeyword}
+use Rattle.rules.specs.declared.place.Place.{Place}
+use Rattle.rules.specs.Places.{allowsPlanning}
+use Rattle.rules.specs.Elements.{Found, found, when, planning, lineAnd, rowLines, table, comment, fixedWidth, horizontalRule, keyword}
 use Rattle.rules.specs.Spans.{lineBody, ownLines, innerOf, innerFrom, innerTo}
 use Rattle.rules.specs.Findings.{LineOf, spanned, ruleAt}
 use Rattle.rules.specs.declared.element.Element.{Element}
 use Rattle.rules.specs.declared.element.Rule.the-variants.{Holds, Fails}
-use Rattle.rules.proofs.Laws.LineOf.{lineOf-from, lineOf-to, lineOf-end, lineOf-order, lineOf-body, lineOf-lines}
+use Rattle.rules.proofs.Laws.LineOf.{lineOf-from, lineOf-to, lineOf-end, lineOf-body, lineOf-lines}
+use Rattle.rules.proofs.Laws.LineTests.{firstRun-order, firstRun-part}
 use Rattle.rules.proofs.Laws.Colons.{throughColon-length-le}
 use Rattle.rules.proofs.Laws.LineRuns.{past-after, past-lineAnd}
 
@@ -77,10 +80,14 @@ module _ (s : List ℕ) (l : LineSpan) (e : ℕ) (h : LineOf s l e) where
   unfolding spanned innerOf innerFrom innerTo headLine size
   spanned-keyword v i = rw (lineOf-lines s l e h) (spanOf-same Kind.keyword (omega (arith, lineOf-end s l e h)) i (lineOf-to s l e h))
 
-  spanned-own : (f : Line → Bool) (k q : ℕ) → innerOf k ≡ ownLines → q ≡ past f s (l .end) e
-      → spanOf k q (l .start) q ≡ spanned (l .start) ls (found k (lineAnd f ls) 0)
+  pub spanned-own : (k n q : ℕ) → innerOf k ≡ ownLines → q ≡ l .start + size (take n ls)
+      → spanOf k q (l .start) q ≡ spanned (l .start) ls (found k n 0)
   unfolding spanned innerFrom innerTo
-  spanned-own f k q i j = let n = j ∙ sym (past-lineAnd f s l e h) in rw i (spanOf-same k n refl n)
+  spanned-own k n q i j = rw i (spanOf-same k j refl j)
+
+  spanned-lines : (f : Line → Bool) (k q : ℕ) → innerOf k ≡ ownLines → q ≡ past f s (l .end) e
+      → spanOf k q (l .start) q ≡ spanned (l .start) ls (found k (lineAnd f ls) 0)
+  spanned-lines f k q i j = spanned-own k (lineAnd f ls) q i (j ∙ sym (past-lineAnd f s l e h))
 
   spanned-table : (q r : ℕ) → q ≡ past isRow s (l .end) e → r ≡ past isFormula s q e
       → spanOf Kind.table r (l .start) q ≡ spanned (l .start) ls (found Kind.table (rowLines ls + leading isFormula (drop (rowLines ls) ls)) 0)
@@ -88,6 +95,18 @@ module _ (s : List ℕ) (l : LineSpan) (e : ℕ) (h : LineOf s l e) where
   spanned-table q r i j =
       let n = i ∙ sym (past-lineAnd isRow s l e h) in
       spanOf-same Kind.table (j ∙ rw n (sym (past-after isFormula s (l .start) e (lineAnd isRow ls)))) refl n
+
+  -- ---- rule 1
+
+  module _ (pl : Place) where
+    pub planning-no : (allowsPlanning pl && isPlanning line) ≡ false → Fails ≡ ruleAt (l .start) ls (planning pl ls)
+    unfolding planning lineIn
+    planning-no = ruleAt-no _ _ _ _
+
+    pub planning-yes : (allowsPlanning pl && isPlanning line) ≡ true
+        → Holds (spanOf Kind.planning (l .end) (l .from) (l .to)) ≡ ruleAt (l .start) ls (planning pl ls)
+    unfolding planning lineIn innerOf
+    planning-yes t = ruleAt-yes _ _ _ _ t _ (spanned-body Kind.planning refl)
 
   -- ---- rule 5
 
@@ -110,7 +129,7 @@ module _ (s : List ℕ) (l : LineSpan) (e : ℕ) (h : LineOf s l e) where
   pub comment-yes : isComment line ≡ true → (q : ℕ) → q ≡ past isComment s (l .end) e
       → Holds (spanOf Kind.comment q (l .start) q) ≡ ruleAt (l .start) ls (comment ls)
   unfolding comment lineIn innerOf
-  comment-yes t q i = ruleAt-yes _ _ _ _ t _ (spanned-own isComment Kind.comment q refl i)
+  comment-yes t q i = ruleAt-yes _ _ _ _ t _ (spanned-lines isComment Kind.comment q refl i)
 
   pub fixedWidth-no : isFixedWidth line ≡ false → Fails ≡ ruleAt (l .start) ls (fixedWidth ls)
   unfolding fixedWidth lineIn
@@ -119,7 +138,7 @@ module _ (s : List ℕ) (l : LineSpan) (e : ℕ) (h : LineOf s l e) where
   pub fixedWidth-yes : isFixedWidth line ≡ true → (q : ℕ) → q ≡ past isFixedWidth s (l .end) e
       → Holds (spanOf Kind.fixedWidth q (l .start) q) ≡ ruleAt (l .start) ls (fixedWidth ls)
   unfolding fixedWidth lineIn innerOf
-  fixedWidth-yes t q i = ruleAt-yes _ _ _ _ t _ (spanned-own isFixedWidth Kind.fixedWidth q refl i)
+  fixedWidth-yes t q i = ruleAt-yes _ _ _ _ t _ (spanned-lines isFixedWidth Kind.fixedWidth q refl i)
 
   -- ---- rule 8
 
@@ -163,29 +182,17 @@ module _ (s : List ℕ) (l : LineSpan) (e : ℕ) (h : LineOf s l e) where
 
   -- the body's first run ends at byte q
   module _ (q : ℕ) (i : q ≡ l .from + length (run isNonBlank (part s (l .from) (l .to)))) where
-    pub firstRun-to : q ≤ l .to
-    firstRun-to =
-        let x = part s (l .from) (l .to) in
-        omega (arith, run-length-le isNonBlank x, part-length s (l .from) (l .to) (omega (arith, lineOf-order s l e h)), lineOf-order s l e h)
-
-    pub firstRun-part : part s (l .from) q ≡ firstRun (body line)
-    unfolding firstRun
-    firstRun-part =
-        let x = part s (l .from) (l .to) in
-        ap (part s (l .from)) i ∙ sym (part-take s (length (run isNonBlank x)) (l .from) (l .to) (omega (arith, firstRun-to)))
-        ∙ sym (run-take isNonBlank x) ∙ ap (run isNonBlank) (lineOf-body s l e h)
-
     -- the marker ends at byte m
     module _ (m : ℕ) (j : m ≡ l .from + length (throughColon (part s (l .from) q))) where
       marker-end : m ≡ l .from + length (keywordMarker line)
       unfolding keywordMarker
-      marker-end = j ∙ rw firstRun-part
+      marker-end = j ∙ rw (firstRun-part s l e h q i)
 
       pub marker-to : m ≤ l .to
       marker-to =
           let x = part s (l .from) q in
-          let k = part-length s (l .from) q (omega (arith, firstRun-to, lineOf-order s l e h)) in
-          omega (arith, throughColon-length-le x, firstRun-to, lineOf-order s l e h)
+          let o = firstRun-order s l e h q i in
+          omega (arith, throughColon-length-le x, part-length s (l .from) q (omega arith))
 
       pub keyword-short : m - l .from < 4 → Fails ≡ ruleAt (l .start) ls (keyword ls)
       unfolding isKeyword

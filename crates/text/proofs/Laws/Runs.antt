@@ -1,6 +1,6 @@
 -- Laws of runs and words: one byte more, which part of the bytes a run is, and both in a part of a text.
 -- Assumes nothing.
-use mathlib.Core.Path.{_≡_, refl, ap, _∙_}
+use mathlib.Core.Path.{_≡_, refl, sym, ap, _∙_}
 use mathlib.Core.Bool.{Bool, true, false, not, _&&_, and-false}
 use mathlib.Core.List.{List, [], _∷_, _++_}
 use Prim.Native.Nat.{ℕ, zero, suc, _+_, _-_, _≤_, _<_}
@@ -16,7 +16,7 @@ use Rattle.text.specs.Bytes.{isNonBlank, lower}
 use Rattle.text.specs.Runs.{all, isEmpty, run, afterRun, consUnlessEnd, trimEnd, same, begins}
 use Rattle.text.specs.Parts.{part}
 use Rattle.text.proofs.Basics.{and-first}
-use Rattle.text.proofs.Laws.Parts.{part-nil, part-cons, part-last, part-length}
+use Rattle.text.proofs.Laws.Parts.{part-nil, part-cons, part-last, part-length, part-take}
 
 -- ---- a leading run
 
@@ -143,6 +143,15 @@ module _ (s : List ℕ) (p e : ℕ) where
 
     pub trimEnd-part-blank : isNonBlank (getD s (e - 1) 0) ≡ false → length (trimEnd (part s p e)) ≡ length (trimEnd (part s p (e - 1)))
     trimEnd-part-blank t = rw (part-last s p e h k, trimEnd-blank (part s p (e - 1)) (getD s (e - 1) 0) t)
+
+  -- a run from the part's start is a part, up to byte q
+  module _ (f : ℕ → Bool) (h : p ≤ e) (k : e ≤ length s) (q : ℕ) (i : q ≡ p + length (run f (part s p e))) where
+    pub run-part-to : q ≤ e
+    run-part-to = omega (arith, run-length-le f (part s p e), part-length s p e k)
+
+    pub run-part : run f (part s p e) ≡ part s p q
+    run-part =
+        run-take f (part s p e) ∙ part-take s (length (run f (part s p e))) p e (omega (arith, run-part-to)) ∙ ap (part s p) (sym i)
 
 -- n bytes that pass, then the run from there on
 pub run-part-skip : (f : ℕ → Bool) (s : List ℕ) (n p e : ℕ) → p + n ≤ e → e ≤ length s → ((k : ℕ) → k < n → f (getD s (p + k) 0) ≡ true)

@@ -24,18 +24,21 @@ returns-2 c =
 returns-3 : tie.Need-returns-3
 returns-3 c =
     let at-mode = c .before .before .before in
-    rw (c .stop2 .ensures)
-    (sym (absorb-full _ _ _ _ (at-mode .before .before .if1 .left) (at-mode .before .if2 .left) (at-mode .if3 .taken) (c .before .if4 .taken)),
-    (omega arith, λ h. absurd (true≢false h)))
+    rw (c .stop2 .ensures) (
+      sym (absorb-full _ _ _ _ (at-mode .before .before .if1 .left) (at-mode .before .if2 .left) (at-mode .if3 .taken) (c .before .if4 .taken)),
+      (omega arith, λ h. absurd (true≢false h)),
+    )
 
 returns-4 : tie.Need-returns-4
 returns-4 c =
     let at-depth = c .before .before in
-    let go = at-depth .before .if1 .left in
-    (⊎-elim
-    (λ w. rw (w .7 ∙ w .4 .ensures) (sym (absorb-put _ _ _ _ go (at-depth .if2 .left) (w .0 .taken) (w .2 .left))))
-    (λ w. rw (w .1) (sym (absorb-count _ _ _ _ go (at-depth .if2 .left) (w .0 .left))))
-    (c .before .if3 .came), (omega arith, λ h. omega arith))
+    let go = at-depth .before .if1 .left in (
+      ⊎-elim
+          (λ w. rw (w .7 ∙ w .4 .ensures) (sym (absorb-put _ _ _ _ go (at-depth .if2 .left) (w .0 .taken) (w .2 .left))))
+          (λ w. rw (w .1) (sym (absorb-count _ _ _ _ go (at-depth .if2 .left) (w .0 .left))))
+          (c .before .if3 .came),
+      (omega arith, λ h. omega arith),
+    )
 
 same-length : tie.Need-same-length
 same-length c = ⊎-elim (λ w. ap length (w .7 ∙ w .4 .ensures) ∙ simp length-set) (λ w. ap length (w .1)) (c .before .if3 .came)

@@ -1,0 +1,79 @@
+-- `reading::walk::read_lines` meets its contract.
+-- The invariant: what is left to absorb from `at` on, in the state so far, ends as all of it does from the start; and each line gives one
+-- record at most. The measure is the bytes after `at`.
+-- Assumes nothing.
+use mathlib.Core.Path.{_≡_, refl, sym, _∙_}
+use Prim.Native.Nat.{_+_, _-_, _≤_, _<_}
+use native.Mathlib.Omega.{arith}
+use lib.ListN.{length}
+use Rattle.rules.specs.Findings.{LineOf}
+use Rattle.rules.proofs.Laws.LineOf.{lineOf, lineSpan-next}
+use Rattle.reading.specs.Walk.{state, absorbed, entriesFrom, linesTo}
+use Rattle.reading.proofs.Laws.LineRecords.{line-small, line-turn, lines-none}
+use Rattle.reading.proofs.walk.read_lines.Statement.{statement}
+use Rattle.reading.proofs.walk.read_lines.Tie as tie
+
+abbrev Inv-loop : tie.InvT-loop
+Inv-loop text from to rows depth parent table₀ at₀ kept₀ table at kept =
+    (at ≤ to) × (kept .count + from ≤ kept₀ .count + at) × (length table ≡ length table₀)
+    × (absorbed (state table kept) (entriesFrom text (linesTo rows to) parent depth at (kept .count))
+    ≡ absorbed (state table₀ kept₀) (entriesFrom text (linesTo rows to) parent depth from (kept₀ .count)))
+
+abbrev μ-loop : tie.MeasureT-loop
+μ-loop text from to rows depth parent table₀ at₀ kept₀ table at kept = to - at
+
+module _ (c : tie.After-line-at Inv-loop μ-loop) where
+  here : LineOf (c .before .before .before .before .before .args .text .now) (c .line-at .result) (c .before .before .before .before .before .args .to)
+  here = lineOf _ _ _ _ (c .before .loop-test .taken) (omega arith) (c .line-at .ensures)
+
+  next : (c .before .before .loop .at < c .line-at .result .end) × (c .line-at .result .end ≤ c .before .before .before .before .before .args .to)
+  next = lineSpan-next _ _ _ _ (c .line-at .ensures) (c .before .loop-test .taken) (omega arith)
+
+line-record-requires : tie.Need-line-record-requires Inv-loop μ-loop
+line-record-requires c κs = here (c .before)
+
+emit-requires : tie.Need-emit-requires Inv-loop μ-loop
+emit-requires c κs =
+    let args = c .before .before .before .before .before .before .before .args in
+    (rw (c .line-record .ensures) (line-small _ _ _ (args .parent) (here (c .before .before)) (args .rows) (omega arith) (omega arith)), omega arith)
+
+loop-less : tie.Need-loop-less Inv-loop μ-loop
+loop-less c = let n = next (c .before .before .before .before .before) in omega arith
+
+loop-again : tie.Need-loop-again Inv-loop μ-loop
+loop-again c =
+    let at-emit = c .before .before in
+    let at-record = at-emit .before in
+    let at-line = at-record .before .before in
+    let at-test = at-line .before in
+    let inv = at-test .before .loop .inv in
+    let args = at-test .before .before .before .before .args in
+    let n = next at-line in (
+      n .1,
+      omega arith,
+      at-emit .emit .kept .0 ∙ inv .2,
+      line-turn _ _ _ _ (args .parent) _ (args .rows) _ _ _ (at-test .loop-test .taken) (omega arith) (at-line .line-at .ensures)
+          (at-record .line-record .ensures) (at-emit .emit .ensures .0)
+          ∙ inv .3,
+    )
+
+returns : tie.Need-returns Inv-loop μ-loop
+returns c =
+    let loop = c .before .loop in
+    let args = c .before .before .before .before .args in
+    (sym (lines-none (args .text .now) (args .rows) _ (args .parent) (args .depth) _ (loop .kept .count) _ (c .loop-test .left)) ∙ loop .inv .3, omega arith)
+
+pub read-lines-spec : {M : Type 1} → statement M
+read-lines-spec =
+    tie.close
+    (tie.spec
+    Inv-loop
+    μ-loop
+    (λ c. (omega arith, omega arith, refl, refl))
+    (λ c κs. omega arith)
+    line-record-requires
+    emit-requires
+    loop-less
+    loop-again
+    (λ c. c .before .loop .inv .2)
+    returns)

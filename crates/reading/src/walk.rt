@@ -1,0 +1,264 @@
+ghost use mathlib.Core.Path.{_≡_};
+ghost use mathlib.Core.Bool.{false};
+ghost use Prim.Native.Nat.{_+_, _*_, _≤_, _<_};
+ghost use lib.ListN.{length};
+ghost use Rattle.text.specs.Parts.{nextLine, LineStart};
+ghost use Rattle.rules.specs.Headings.{isHeading};
+ghost use Rattle.rules.specs.Places.{placeAt};
+ghost use Rattle.rules.specs.Findings.{LineOf, NoEnd};
+ghost use Rattle.reading.specs.Makers.{childRecord};
+ghost use Rattle.reading.specs.Nesting.{depthIn};
+ghost use Rattle.reading.specs.Walk.{state, absorbed, entriesFrom, elementsTo, linesTo, sectionOf, sectionEntries};
+ghost use Rattle.reading.specs.Walk.{Range, ElementIn, recordOf, withHeld, nextPlace, firstPlace};
+use crate::record::Record;
+use crate::sink::Sink;
+use crate::sink::emit;
+use rules::closer::may_end;
+use rules::element::Element;
+use rules::element::element_at;
+use rules::kind;
+use rules::place::Place;
+use text::bytes::Class;
+use text::bytes::run_end;
+use text::line::LineSpan;
+use text::line::first_line;
+use text::line::line_at;
+use text::word::begins_with;
+
+// The record of a node property line, or of a row.
+fn line_record(text: &[u8], line: LineSpan, to: usize, rows: bool, parent: usize) -> Record
+    requires { ⌜ LineOf (now text) line to ⌝ }
+    ensures { λ r. ⌜ r ≡ childRecord (now (text .entry)) (linesTo rows to) parent (line .start) ⌝ }
+{
+    if rows {
+        let detail = if begins_with(text, line.from, line.to, b"|-") {
+            1
+        } else {
+            0
+        };
+        return Record {
+            kind: kind::ROW,
+            start: line.start,
+            end: line.end,
+            from: line.from,
+            to: line.to,
+            parent: parent,
+            detail: detail,
+        };
+    }
+    let marker = run_end(text, line.from, line.to, Class::NonBlank);
+    Record {
+        kind: kind::NODE_PROPERTY,
+        start: line.start,
+        end: line.end,
+        from: run_end(text, marker, line.to, Class::Blank),
+        to: line.to,
+        parent: parent,
+        detail: 0,
+    }
+}
+
+// The lines of a property drawer, or the rows of a table.
+fn read_lines(
+    text: &[u8],
+    from: usize,
+    to: usize,
+    rows: bool,
+    depth: usize,
+    parent: usize,
+    table: &mut [u32],
+    sink: Sink,
+) -> Sink
+    requires { ⌜ (from ≤ to) × (to ≤ length (now text)) × (to ≤ 65536) × (parent ≤ 200000) × (sink .count ≤ 2 * from + 3) ⌝ }
+    ensures { λ r. ⌜ state (now (table .exit)) r ≡ absorbed (state (now (table .entry)) sink) (entriesFrom (now (text .entry)) (linesTo rows to) parent depth from (sink .count)) ⌝ }
+    ensures { λ r. ⌜ r .count + from ≤ sink .count + to ⌝ }
+{
+    let mut at = from;
+    let mut kept = sink;
+    while at < to {
+        let line = line_at(text, at, to);
+        kept = emit(
+            table,
+            kept,
+            line_record(text, line, to, rows, parent),
+            depth,
+        );
+        at = line.end;
+    }
+    kept
+}
+
+// The place after an element of a kind, with no blank line after it or with some.
+fn next_place(place: Place, kind: usize, tight: bool) -> Place
+    ensures { λ r. ⌜ r ≡ nextPlace place kind tight ⌝ }
+{
+    if !tight {
+        return Place::Elsewhere;
+    }
+    if kind == kind::PLANNING {
+        return Place::AfterPlanning;
+    }
+    if kind != kind::COMMENT {
+        return Place::Elsewhere;
+    }
+    match place {
+        Place::Opening => Place::AfterComment,
+        Place::AfterComment => Place::AfterComment,
+        _ => Place::Elsewhere,
+    }
+}
+
+// The depth of an element of a kind in a container of a depth.
+fn depth_in(depth: usize, kind: usize) -> usize
+    requires { ⌜ depth ≤ 32 ⌝ }
+    ensures { λ r. ⌜ r ≡ depthIn depth kind ⌝ }
+{
+    if kind == kind::DRAWER || kind == kind::GREATER_BLOCK {
+        depth + 1
+    } else {
+        depth
+    }
+}
+
+// Whether an `:END:` line may still follow the first line of an element of a kind. Only a paragraph's can have failed to open a drawer.
+fn ends_after(text: &[u8], line: LineSpan, to: usize, before: bool, kind: usize) -> bool
+    requires { ⌜ LineOf (now text) line to × (before ≡ false → NoEnd (now text) (line .start) to) ⌝ }
+    ensures { λ r. ⌜ (r ≡ false → NoEnd (now (text .entry)) (line .end) to) ⌝ }
+{
+    if kind != kind::PARAGRAPH {
+        return before;
+    }
+    may_end(text, line, to, before)
+}
+
+// The elements of a range, with all that they hold.
+fn read_elements(
+    text: &[u8],
+    from: usize,
+    to: usize,
+    place: Place,
+    depth: usize,
+    parent: usize,
+    table: &mut [u32],
+    sink: Sink,
+) -> Sink
+    requires { ⌜ Range (now text) from to × (from < to → place ≡ placeAt (now text) from) × (depth ≤ 32) × (parent ≤ 200000) × (sink .count ≤ 2 * from + 2) ⌝ }
+    ensures { λ r. ⌜ state (now (table .exit)) r ≡ absorbed (state (now (table .entry)) sink) (entriesFrom (now (text .entry)) (elementsTo to) parent depth from (sink .count)) ⌝ }
+    ensures { λ r. ⌜ r .count + 2 * from ≤ sink .count + 2 * to ⌝ }
+{
+    let mut at = from;
+    let mut here = place;
+    let mut ends = true;
+    let mut kept = sink;
+    while at < to {
+        let line = line_at(text, at, to);
+        let e = element_at(text, line, to, here, ends);
+        let end = first_line(text, e.end, to);
+        ends = ends_after(text, line, to, ends, e.kind);
+        here = next_place(here, e.kind, end == e.end);
+        kept = read_element(text, at, end, e, depth, parent, table, kept);
+        at = end;
+    }
+    kept
+}
+
+// One element from `at` to `end`, with all that it holds.
+fn read_element(
+    text: &[u8],
+    at: usize,
+    end: usize,
+    e: Element,
+    depth: usize,
+    parent: usize,
+    table: &mut [u32],
+    sink: Sink,
+) -> Sink
+    requires { ⌜ ElementIn (now text) at end e × (depth ≤ 32) × (parent ≤ 200000) × (sink .count ≤ 2 * at + 2) ⌝ }
+    ensures { λ r. ⌜ state (now (table .exit)) r ≡ absorbed (state (now (table .entry)) sink) (withHeld (now (text .entry)) (recordOf at end e parent) (sink .count) depth) ⌝ }
+    ensures { λ r. ⌜ r .count + 2 * at ≤ sink .count + 2 * end ⌝ }
+{
+    let index = sink.count;
+    let kind = e.kind;
+    let inner = depth_in(depth, kind);
+    let r = Record {
+        kind: kind,
+        start: at,
+        end: end,
+        from: e.from,
+        to: e.to,
+        parent: parent,
+        detail: e.detail,
+    };
+    let kept = emit(table, sink, r, inner);
+    if kept.stopped {
+        return kept;
+    }
+    if kind == kind::TABLE {
+        let first = first_line(text, e.from, e.to);
+        return read_lines(text, first, e.to, true, inner, index, table, kept);
+    }
+    if kind == kind::PROPERTY_DRAWER {
+        let first = first_line(text, e.from, e.to);
+        return read_lines(text, first, e.to, false, inner, index, table, kept);
+    }
+    if inner <= depth {
+        return kept;
+    }
+    let first = first_line(text, e.from, e.to);
+    read_elements(
+        text,
+        first,
+        e.to,
+        Place::Elsewhere,
+        inner,
+        index,
+        table,
+        kept,
+    )
+}
+
+// The place of a section's first line, which stands after blank lines or not.
+fn first_place(place: Place, blank: bool) -> Place
+    ensures { λ r. ⌜ r ≡ firstPlace place blank ⌝ }
+{
+    if !blank {
+        return place;
+    }
+    match place {
+        Place::Opening => Place::Opening,
+        _ => Place::Elsewhere,
+    }
+}
+
+// The section from the line after a heading line, or from the text's start, up to the next heading line; none where all of it is blank.
+pub fn read_section(
+    text: &[u8],
+    from: usize,
+    to: usize,
+    place: Place,
+    parent: usize,
+    table: &mut [u32],
+    sink: Sink,
+) -> Sink
+    requires { ⌜ (from ≤ length (now text)) × (length (now text) ≤ 65536) × LineStart (now text) from × (to ≡ nextLine isHeading (now text) from) × (place ≡ placeAt (now text) from) × (parent ≤ 200000) × (sink .count ≤ 2 * from + 1) ⌝ }
+    ensures { λ r. ⌜ state (now (table .exit)) r ≡ absorbed (state (now (table .entry)) sink) (sectionEntries (now (text .entry)) (sectionOf from) parent (sink .count)) ⌝ }
+    ensures { λ r. ⌜ r .count + 2 * from ≤ sink .count + 2 * to + 1 ⌝ }
+{
+    let at = first_line(text, from, to);
+    if to <= at {
+        return sink;
+    }
+    let here = first_place(place, from < at);
+    let index = sink.count;
+    let r = Record {
+        kind: kind::SECTION,
+        start: at,
+        end: to,
+        from: at,
+        to: to,
+        parent: parent,
+        detail: 0,
+    };
+    let kept = emit(table, sink, r, 0);
+    read_elements(text, at, to, here, 0, index, table, kept)
+}

@@ -1,0 +1,122 @@
+-- `rules::block::try_block` meets its contract: the body begins with `#+begin_`, a name follows, its closer stands, and the name tells the kind.
+-- Assumes nothing.
+use mathlib.Core.Path.{_≡_, sym, _∙_}
+use mathlib.Core.Bool.{true}
+use mathlib.Core.List.{_++_}
+use Prim.Native.Nat.{_+_, _≤_}
+use native.Mathlib.Omega.{arith}
+use lib.ListN.{length}
+use borrow.Author.Needs.{needs}
+use borrow.Author.Tests.{not-true, not-false}
+use Rattle.text.specs.Runs.{word, begins}
+use Rattle.text.specs.Parts.{part, linesIn}
+use Rattle.text.proofs.Laws.Parts.{part-slice}
+use Rattle.rules.specs.Elements.{linesBefore}
+use Rattle.rules.specs.Findings.{closerAt}
+use Rattle.rules.proofs.Laws.LineOf.{lineOf-order}
+use Rattle.rules.proofs.Laws.Blocks.{block-no, begin-order, name-order, block-unnamed, closer-bytes, block-open, block-verbatim, block-greater}
+use Rattle.rules.proofs.block.try_block.Statement.{statement}
+use Rattle.rules.proofs.block.try_block.Tie as tie
+
+begins-with-requires : tie.Need-begins-with-requires
+begins-with-requires c κs = let o = lineOf-order _ _ _ (c .before .before .pre) in (o .1, omega arith)
+
+returns : tie.Need-returns
+unfolding word
+returns c = block-no _ _ _ (c .before .before .before .before .pre) (sym (c .before .begins-with .ensures) ∙ not-true _ (c .if1 .taken))
+
+-- the body begins so
+begin : (c : tie.Else1) → let start = c .before .before .before .before in
+    begins (part (start .args .text .now) (start .args .line .from) (start .args .line .to)) (word "#+begin_") ≡ true
+unfolding word
+begin c = sym (c .before .begins-with .ensures) ∙ not-false _ (c .if1 .left)
+
+name : (c : tie.Else1) → let args = c .before .before .before .before .args in
+    (args .line .from + 8 ≤ args .line .to) × (args .line .to ≤ length (args .text .now))
+name c = begin-order _ _ _ (c .before .before .before .before .pre) (begin c)
+
+returns-2 : tie.Need-returns-2
+returns-2 c =
+    let at-name = c .before in
+    let at-begin = at-name .before .before in
+    block-unnamed _ _ _ (at-begin .before .before .before .before .pre) (begin at-begin) _ (at-name .run-end .ensures) (c .if2 .taken)
+
+-- the name's end
+ends : (c : tie.After-run-end) → let args = c .before .before .before .before .before .before .args in
+    (args .line .from + 8 ≤ c .run-end .result) × (c .run-end .result ≤ args .line .to) × (args .line .to ≤ length (args .text .now))
+ends c =
+    let at-begin = c .before .before in
+    name-order _ _ _ (at-begin .before .before .before .before .pre) (begin at-begin) _ (c .run-end .ensures)
+
+find-closer-requires : tie.Need-find-closer-requires
+unfolding word
+find-closer-requires c κs =
+    let at-name = c .before .before .before in
+    let at-begin = at-name .before .before in
+    let start = at-begin .before .before .before .before in
+    let o = lineOf-order _ _ _ (start .pre) in
+    (o .4, o .5, rw (part-slice _ _ _ (ends at-name .0)) (closer-bytes _ _ _ (start .pre) (begin at-begin) _ (at-name .run-end .ensures)))
+
+-- the closer of the name
+closer : (c : tie.After-find-closer) →
+    let at-name = c .before .before .before .before in
+    let args = at-name .before .before .before .before .before .before .args in
+    let s = args .text .now in
+    let ls = linesIn s (args .line .end) (args .to) in
+    c .find-closer .result ≡ closerAt (args .line .end) ls (linesBefore (word "#+end_" ++ part s (args .line .from + 8) (at-name .run-end .result)) ls)
+unfolding word
+closer c = rw (part-slice _ _ _ (ends (c .before .before .before .before) .0)) at (c .find-closer .ensures)
+
+returns-3 : tie.Need-returns-3
+returns-3 c =
+    let at-closer = c .before .before in
+    let at-test = at-closer .before .before .before in
+    let at-name = at-test .before in
+    let at-begin = at-name .before .before in
+    block-open _ _ _ (at-begin .before .before .before .before .pre) (begin at-begin) _ (at-name .run-end .ensures) (at-test .if2 .left) _
+    (closer at-closer) (c .enum-told .given .1)
+
+returns-4 : tie.Need-returns-4
+returns-4 c =
+    let at-detail = c .before in
+    let at-close = at-detail .before .before in
+    let at-closer = at-close .before .before in
+    let at-test = at-closer .before .before .before in
+    let at-name = at-test .before in
+    let at-begin = at-name .before .before in
+    block-verbatim _ _ _ (at-begin .before .before .before .before .pre) (begin at-begin) _ (at-name .run-end .ensures) (at-test .if2 .left) _
+    (sym (at-close .close .given .1) ∙ closer at-closer) _ (at-detail .verbatim-detail .ensures) (c .if3 .taken)
+
+returns-5 : tie.Need-returns-5
+returns-5 c =
+    let at-detail = c .before .before in
+    let at-close = at-detail .before .before in
+    let at-closer = at-close .before .before in
+    let at-test = at-closer .before .before .before in
+    let at-name = at-test .before in
+    let at-begin = at-name .before .before in
+    block-greater _ _ _ (at-begin .before .before .before .before .pre) (begin at-begin) _ (at-name .run-end .ensures) (at-test .if2 .left) _
+    (sym (at-close .close .given .1) ∙ closer at-closer) _ (at-detail .verbatim-detail .ensures) (c .before .if3 .left) _ (c .greater-detail .ensures)
+
+pub try-block-spec : {M : Type 1} → statement M
+try-block-spec =
+    tie.close
+    (tie.spec
+    (λ c. search needs)
+    begins-with-requires
+    returns
+    (λ c. omega (arith, name (c .before)))
+    (λ c κs. omega (arith, name (c .before)))
+    returns-2
+    (λ c. search needs)
+    (λ c. search needs)
+    (λ c. search needs)
+    (λ c. let o = ends (c .before .before) in search needs)
+    find-closer-requires
+    (λ c. search needs)
+    (λ c. search needs)
+    returns-3
+    (λ c κs. omega (arith, ends (c .before .before .before .before .before .before .before)))
+    returns-4
+    (λ c κs. omega (arith, ends (c .before .before .before .before .before .before .before .before .before)))
+    returns-5)

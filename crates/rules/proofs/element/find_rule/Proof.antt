@@ -1,0 +1,105 @@
+-- `rules::element::find_rule` meets its contract: the first byte of the body tells which rules can hold, and no rule holds at a blank line.
+-- Assumes nothing.
+use mathlib.Core.Path.{_≡_, ap, _∙_}
+use mathlib.Core.Logic.{inl, inr, ⊎-elim}
+use native.Mathlib.Omega.{arith}
+use lib.ListN.{getD}
+use borrow.Author.Needs.{needs}
+use Rattle.text.specs.Bytes.{lower}
+use Rattle.text.specs.Parts.{linesIn}
+use Rattle.rules.specs.Elements.{firstOf, rules1to9}
+use Rattle.rules.specs.Findings.{ruleAt}
+use Rattle.rules.specs.declared.element.Rule.the-variants.{Fails}
+use Rattle.rules.proofs.Laws.LineOf.{lineOf-order}
+use Rattle.rules.proofs.Laws.FirstByte.{firstAt, first-none, first-some, unwanted, startsPlanning}
+use Rattle.rules.proofs.Laws.FirstByte.{startsPlanning-upper, startsPlanning-small, startsPlanning-s}
+use Rattle.rules.proofs.Laws.FirstOf.{firstOf-colon, firstOf-hash, firstOf-bar, firstOf-hyphen, firstOf-letter, firstOf-other}
+use Rattle.rules.proofs.element.find_rule.Statement.{statement}
+use Rattle.rules.proofs.element.find_rule.Tie as tie
+
+returns : tie.Need-returns
+unfolding ruleAt
+returns c =
+    let start = c .before .before .before in
+    let n = first-none _ _ _ (start .pre .0) (c .if1 .taken) in
+    rw (firstOf-other (linesIn (start .args .text .now) (start .args .line .start) (start .args .to)) (start .args .place) (omega arith))
+
+-- the first byte
+first : (c : tie.Else1) → let args = c .before .before .before .args in
+    firstAt (linesIn (args .text .now) (args .line .start) (args .to)) ≡ lower (getD (args .text .now) (args .line .from) 0)
+first c = first-some _ _ _ (c .before .before .before .pre .0) (c .if1 .left)
+
+shared-slice-read-first : tie.Need-shared-slice-read-first
+shared-slice-read-first c = let o = lineOf-order _ _ _ (c .before .before .before .before .pre .0) in omega arith
+
+returns-2 : tie.Need-returns-2
+unfolding lower
+returns-2 c = rw (firstOf-colon _ _ (first (c .before .before .before) ∙ ap lower (c .before .match .keys2))) (c .try-colon .ensures)
+
+returns-3 : tie.Need-returns-3
+unfolding lower
+returns-3 c = rw (firstOf-hash _ _ (first (c .before .before .before) ∙ ap lower (c .before .match .keys3))) (c .try-hash .ensures)
+
+returns-4 : tie.Need-returns-4
+unfolding lower
+returns-4 c = rw (firstOf-bar _ _ (first (c .before .before .before) ∙ ap lower (c .before .match .keys4))) (c .try-table .ensures)
+
+returns-5 : tie.Need-returns-5
+unfolding lower
+returns-5 c = rw (firstOf-hyphen _ _ (first (c .before .before .before) ∙ ap lower (c .before .match .keys5))) (c .try-horizontal-rule .ensures)
+
+-- a byte of no arm: neither a key nor in a range
+rest : (c : tie.At-match-rest) →
+    let args = c .before .before .before .before .before .args in
+    let s = args .text .now in
+    let b = getD s (args .line .from) 0 in
+    let ls = linesIn s (args .line .start) (args .to) in
+    (b ≡ 67 → ⊥) → (b ≡ 68 → ⊥) → (b ≡ 99 → ⊥) → (b ≡ 100 → ⊥) → Fails ≡ ruleAt (args .line .start) ls (firstOf (rules1to9 (args .place)) ls)
+unfolding ruleAt
+rest c h i j k =
+    let start = c .before .before .before .before .before in
+    let s = start .args .text .now in
+    let r = c .match .rest in
+    let b = getD s (start .args .line .from) 0 in
+    let n = unwanted b h i (λ e. r .0 .0 .0 .0 .1 (inl e)) j k (λ e. r .0 .0 .0 .0 .1 (inr e)) (r .0 .0 .0 .1) (r .0 .0 .1) (r .0 .1) (r .1) in
+    rw (firstOf-other (linesIn s (start .args .line .start) (start .args .to)) (start .args .place) (rw (first (c .before .before)) n))
+
+returns-6 : tie.Need-returns-6
+returns-6 c = rest (c .before) (omega arith) (omega arith) (omega arith) (omega arith)
+
+returns-7 : tie.Need-returns-7
+returns-7 c = rest (c .before .before .before) (omega arith) (omega arith) (omega arith) (omega arith)
+
+returns-8 : tie.Need-returns-8
+returns-8 c = rest (c .before .before .before .before) (omega arith) (omega arith) (omega arith) (omega arith)
+
+returns-9 : tie.Need-returns-9
+returns-9 c =
+    let at-byte = c .before .before in
+    let start = at-byte .before .before .before .before in
+    let b = getD (start .args .text .now) (start .args .line .from) 0 in
+    let n =
+    ⊎-elim (λ w. startsPlanning-s b (w .keys1))
+    (⊎-elim (λ w. startsPlanning-upper b (w .1 .left) (w .2 .taken)) (λ w. startsPlanning-small b (w .3 .left) (w .4 .taken)))
+    (c .before .match .came) in
+    rw (firstOf-letter _ _ (ap startsPlanning (first (at-byte .before)) ∙ n)) (c .try-planning .ensures)
+
+pub find-rule-spec : {M : Type 1} → statement M
+find-rule-spec =
+    tie.close
+    (tie.spec
+    returns
+    shared-slice-read-first
+    (λ c κs. search needs)
+    (λ c κs. search needs)
+    (λ c κs. search needs)
+    (λ c κs. search needs)
+    (λ c κs. search needs)
+    returns-2
+    returns-3
+    returns-4
+    returns-5
+    returns-6
+    returns-7
+    returns-8
+    returns-9)

@@ -1,0 +1,25 @@
+-- `rules::lines::try_fixed_width` meets its contract: the law of a fixed-width area, at the end that the run of its lines has.
+-- Assumes nothing.
+use mathlib.Core.Path.{sym, _∙_}
+use native.Mathlib.Omega.{arith}
+use borrow.Author.Needs.{needs}
+use borrow.Author.Tests.{not-true, not-false}
+use Rattle.rules.proofs.Laws.LineOf.{lineOf-order}
+use Rattle.rules.proofs.Laws.Rules.{fixedWidth-no, fixedWidth-yes}
+use Rattle.rules.proofs.lines.try_fixed_width.Statement.{statement}
+use Rattle.rules.proofs.lines.try_fixed_width.Tie as tie
+
+returns : tie.Need-returns
+returns c = fixedWidth-no _ _ _ (c .before .before .before .pre) (sym (c .before .is-line .ensures) ∙ not-true _ (c .if1 .taken))
+
+lines-end-requires : tie.Need-lines-end-requires
+lines-end-requires c κs = let o = lineOf-order _ _ _ (c .before .before .before .pre) in omega arith
+
+returns-2 : tie.Need-returns-2
+returns-2 c =
+    let at-test = c .before in
+    fixedWidth-yes _ _ _ (at-test .before .before .before .pre) (sym (at-test .before .is-line .ensures) ∙ not-false _ (at-test .if1 .left))
+    _ (c .lines-end .ensures)
+
+pub try-fixed-width-spec : {M : Type 1} → statement M
+try-fixed-width-spec = tie.close (tie.spec (λ c κs. search needs) returns lines-end-requires returns-2)

@@ -1,0 +1,125 @@
+/*
+ * comaltzex.h - a proved reader of Org order books.
+ *
+ * comaltzex_read lists everything in a text as a flat table of records;
+ * comaltzex_lookup finds one property of one heading. Both are plain functions:
+ * they allocate nothing and keep no state, so threads may call them at once
+ * (each with a table of its own).
+ *
+ * Pointers: each must point to as many elements as its length says, and none
+ * may be NULL, not even with length 0. A table may not overlap the text. The
+ * text is bytes, not a C string: it needs no byte 0 at its end.
+ *
+ * Places are byte offsets into the text; every end is one past the last byte.
+ */
+#ifndef COMALTZEX_H
+#define COMALTZEX_H
+
+#include <stddef.h>
+#include <stdint.h>
+
+#ifdef __cplusplus
+extern "C" {
+#endif
+
+#define COMALTZEX_TEXT_LIMIT 65536 /* the longest text, in bytes */
+#define COMALTZEX_DEPTH_LIMIT 32   /* the deepest drawer or greater block */
+#define COMALTZEX_KEY_LIMIT 64     /* the longest key of a lookup, in bytes */
+#define COMALTZEX_RECORD_SIZE 7    /* numbers in a record */
+
+/* The number of an answer. */
+enum comaltzex_number {
+    COMALTZEX_OK = 0,
+    COMALTZEX_TOO_LONG = 1,   /* the text is over COMALTZEX_TEXT_LIMIT */
+    COMALTZEX_TOO_DEEP = 2,   /* a drawer or greater block at depth 33 or more */
+    COMALTZEX_NO_ROOM = 3,    /* more records than table_len / 7 */
+    COMALTZEX_NO_HEADING = 4, /* no heading line starts at that byte */
+    COMALTZEX_NO_DRAWER = 5,  /* that heading has no property drawer */
+    COMALTZEX_NO_KEY = 6,     /* no line of that drawer has the key */
+    COMALTZEX_BAD_KEY = 7     /* the key is empty, over COMALTZEX_KEY_LIMIT, holds
+                                 byte 9, 10, 13 or 32, or ends in '+' */
+};
+
+/* The seven numbers of a record, in order. */
+enum comaltzex_field {
+    COMALTZEX_FIELD_KIND = 0,
+    COMALTZEX_FIELD_START = 1,
+    COMALTZEX_FIELD_END = 2,
+    COMALTZEX_FIELD_INNER_START = 3,
+    COMALTZEX_FIELD_INNER_END = 4,
+    COMALTZEX_FIELD_PARENT = 5, /* the parent's index; the document's is 0, its own */
+    COMALTZEX_FIELD_DETAIL = 6
+};
+
+/* The kind of a record.             inner span                        detail */
+enum comaltzex_kind {
+    COMALTZEX_DOCUMENT = 1,         /* the whole span                  0 */
+    COMALTZEX_HEADING = 2,          /* after its line, to its end      number of stars */
+    COMALTZEX_SECTION = 3,          /* the whole span                  0 */
+    COMALTZEX_PLANNING = 4,         /* the line's body                 0 */
+    COMALTZEX_PROPERTY_DRAWER = 5,  /* lines between opener and closer 0 */
+    COMALTZEX_NODE_PROPERTY = 6,    /* the value                       0 */
+    COMALTZEX_DRAWER = 7,           /* lines between opener and closer 0 */
+    COMALTZEX_GREATER_BLOCK = 8,    /* lines between opener and closer 1 quote, 2 center,
+                                                                       3 any other name */
+    COMALTZEX_VERBATIM_BLOCK = 9,   /* lines between opener and closer 1 comment, 2 example,
+                                                                       3 export, 4 src, 5 verse */
+    COMALTZEX_TABLE = 10,           /* the row lines                   0 */
+    COMALTZEX_ROW = 11,             /* the line's body                 0 standard, 1 rule */
+    COMALTZEX_COMMENT = 12,         /* own lines, no blank lines after 0 */
+    COMALTZEX_FIXED_WIDTH = 13,     /* own lines, no blank lines after 0 */
+    COMALTZEX_HORIZONTAL_RULE = 14, /* the line's body                 0 */
+    COMALTZEX_KEYWORD = 15,         /* the value                       0 */
+    COMALTZEX_PARAGRAPH = 16        /* own lines, no blank lines after 0 */
+};
+
+typedef struct comaltzex_reading {
+    uint32_t number; /* 0, 1, 2 or 3 */
+    size_t count;    /* records */
+} comaltzex_reading;
+
+typedef struct comaltzex_part {
+    uint32_t number; /* 0, 1, 4, 5, 6 or 7 */
+    size_t start;
+    size_t end;
+} comaltzex_part;
+
+/*
+ * Reads a text into a table of table_len numbers, with room for table_len / 7
+ * records (rounded down). The first of these that holds is the answer:
+ *
+ *   1  the text is over 65,536 bytes; count is 0
+ *   2  a drawer or greater block lies at depth 33 or more; count is 0
+ *   3  there are more records than room; count is the number needed
+ *   0  count records stand at the table's front: the document, then each record
+ *      followed at once by all that it holds, in the order of the text
+ *
+ * 1, 2 and 3 leave the whole table as it was; 0 leaves what is past the records
+ * as it was. Every text has a record, so a table_len of 0 asks for the count.
+ */
+comaltzex_reading comaltzex_read(const uint8_t *text, size_t text_len,
+                                 uint32_t *table, size_t table_len);
+
+/*
+ * Finds the value of a property of the heading whose line starts at byte `at`,
+ * in that heading's own property drawer. The case of ASCII letters in the key
+ * counts for nothing; the first line with the key decides, be it `:KEY:` or
+ * `:KEY+:`. The first of these that holds is the answer:
+ *
+ *   1  the text is over 65,536 bytes
+ *   7  the key is empty, over 64 bytes, holds byte 9, 10, 13 or 32, or ends in '+'
+ *   4  no heading line starts at byte `at`
+ *   5  that heading has no property drawer
+ *   6  no line of the drawer has the key
+ *   0  the value is text[start] up to, not including, text[end]; it may be empty
+ *
+ * With 1, 4, 5, 6 and 7 the part is empty and at byte 0: start and end are 0.
+ */
+comaltzex_part comaltzex_lookup(const uint8_t *text, size_t text_len, size_t at,
+                                const uint8_t *key, size_t key_len);
+
+#ifdef __cplusplus
+}
+#endif
+
+#endif

@@ -1,0 +1,34 @@
+//! A plain reader of Org order books, written from document 01 alone.
+//!
+//! It shares nothing with the proved reader and is what that one is compared with. It is meant to
+//! be checked against document 01 by eye, sentence by sentence, so it is simple before it is fast:
+//! a text is split into lines, and every rule is a question about lines.
+//!
+//! | Part of document 01 | Module |
+//! |---|---|
+//! | "Bytes and lines" | `line` |
+//! | "What starts at a line" | `rules` |
+//! | "A record", "Headings and sections first" | `reading` |
+//! | "Numbers of an answer" | `answer`, `lookup` |
+
+mod answer;
+mod line;
+mod lookup;
+mod reading;
+mod rules;
+
+pub use answer::answer;
+pub use lookup::lookup;
+pub use reading::{read, Reading, Record};
+
+/// "1 | text over 65,536 bytes".
+pub const LONGEST_TEXT: usize = 65_536;
+
+/// "2 | a drawer or greater block lies at depth 33 or more".
+pub const GREATEST_DEPTH: usize = 32;
+
+/// "over 64 bytes" makes a key a bad one.
+pub const LONGEST_KEY: usize = 64;
+
+/// "Seven numbers: kind, start, end, inner start, inner end, parent's index, detail."
+pub const NUMBERS_OF_A_RECORD: usize = 7;

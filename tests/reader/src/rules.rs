@@ -1,0 +1,282 @@
+//! Document 01, "What starts at a line".
+//!
+//! A rule is asked of line `at` in the lines before `end`, the end of the container. It answers
+//! with what it found there, lines being named by their index.
+
+use crate::line::{first_run, is_blank_byte, same_letters, starts_with_letters, Line, Span};
+
+/// The element that starts at a line.
+#[derive(Clone, Copy, Debug)]
+pub enum Element {
+    Planning,
+    PropertyDrawer { closer: usize },
+    GreaterBlock { closer: usize, detail: u32 },
+    VerbatimBlock { closer: usize, detail: u32 },
+    Drawer { closer: usize },
+    Table { rows_end: usize, end: usize },
+    Comment { end: usize },
+    FixedWidth { end: usize },
+    HorizontalRule,
+    Keyword { value: Span },
+    Paragraph { end: usize },
+}
+
+/// A node property's name and value.
+#[derive(Clone, Copy, Debug)]
+pub struct NodeProperty<'t> {
+    pub name: &'t [u8],
+    pub value: Span,
+}
+
+/// "the first of these that holds at a non-blank line names the element".
+pub fn element_at(lines: &[Line], at: usize, end: usize) -> Element {
+    if is_planning_line(lines, at) {
+        return Element::Planning;
+    }
+    if let Some(closer) = property_drawer_closer(lines, at, end) {
+        return Element::PropertyDrawer { closer };
+    }
+    rules_3_to_9(lines, at, end).unwrap_or_else(|| Element::Paragraph {
+        end: paragraph_end(lines, at, end),
+    })
+}
+
+fn rules_3_to_9(lines: &[Line], at: usize, end: usize) -> Option<Element> {
+    let line = &lines[at];
+    if let Some(block) = block(lines, at, end) {
+        return Some(block);
+    }
+    if let Some(closer) = drawer_closer(lines, at, end) {
+        return Some(Element::Drawer { closer });
+    }
+    if is_row_line(line) {
+        return Some(table(lines, at, end));
+    }
+    if is_comment_line(line) {
+        return Some(Element::Comment {
+            end: run_end(lines, at, end, is_comment_line),
+        });
+    }
+    if is_fixed_width_line(line) {
+        return Some(Element::FixedWidth {
+            end: run_end(lines, at, end, is_fixed_width_line),
+        });
+    }
+    if is_horizontal_rule(line) {
+        return Some(Element::HorizontalRule);
+    }
+    keyword_value(line).map(|value| Element::Keyword { value })
+}
+
+/// Rule 1: "only on the line right after a heading line. The body starts with `CLOSED:`,
+/// `DEADLINE:` or `SCHEDULED:`."
+fn is_planning_line(lines: &[Line], at: usize) -> bool {
+    let words: [&[u8]; 3] = [b"CLOSED:", b"DEADLINE:", b"SCHEDULED:"];
+    is_right_after_heading(lines, at)
+        && words
+            .iter()
+            .any(|word| starts_with_letters(lines[at].body, word))
+}
+
+fn is_right_after_heading(lines: &[Line], at: usize) -> bool {
+    at > 0 && lines[at - 1].is_heading()
+}
+
+/// Rule 2: "Body `:PROPERTIES:`, then node property lines only (none is allowed), then body
+/// `:END:`. The first end line closes."
+pub fn property_drawer_closer(lines: &[Line], at: usize, end: usize) -> Option<usize> {
+    if !same_letters(lines[at].body, b":PROPERTIES:") || !is_property_drawer_place(lines, at) {
+        return None;
+    }
+    let closer = first_end_line(lines, at + 1, end)?;
+    let between = &lines[at + 1..closer];
+    let only_properties = between.iter().all(|line| node_property(line).is_some());
+    only_properties.then_some(closer)
+}
+
+/// Rule 2: "only right after a heading line or its planning line with no blank line between; or as
+/// the zeroth section's own first element, or right after a comment that is that first element,
+/// again with no blank line between".
+fn is_property_drawer_place(lines: &[Line], at: usize) -> bool {
+    is_right_after_heading(lines, at)
+        || (at > 0 && is_planning_line(lines, at - 1))
+        || is_first_non_blank_line(lines, at)
+        || is_right_after_first_comment(lines, at)
+}
+
+fn is_first_non_blank_line(lines: &[Line], at: usize) -> bool {
+    lines[..at].iter().all(Line::is_blank)
+}
+
+/// Before line `at` there are blank lines, then comment lines only, at least one.
+fn is_right_after_first_comment(lines: &[Line], at: usize) -> bool {
+    let Some(first) = lines[..at].iter().position(|line| !line.is_blank()) else {
+        return false;
+    };
+    lines[first..at].iter().all(is_comment_line)
+}
+
+/// Rule 2: "the body starts with a non-blank byte, and its first run of such bytes is `:`, X, `:`.
+/// X is not empty; less one final `+`, it is not empty and doesn't end in `+`. X less that `+` is
+/// the name."
+pub fn node_property<'t>(line: &Line<'t>) -> Option<NodeProperty<'t>> {
+    let run = first_run(line.body);
+    let x = run.strip_prefix(b":")?.strip_suffix(b":")?;
+    let name = x.strip_suffix(b"+").unwrap_or(x);
+    if name.is_empty() || name.ends_with(b"+") {
+        return None;
+    }
+    Some(NodeProperty {
+        name,
+        value: line.value_after(run.len()),
+    })
+}
+
+/// The first line from `from` on, before `end`, whose body is `:END:`.
+fn first_end_line(lines: &[Line], from: usize, end: usize) -> Option<usize> {
+    (from..end).find(|index| same_letters(lines[*index].body, b":END:"))
+}
+
+/// Rule 3: "body `#+begin_NAME`, alone or with blank bytes and parameters. [..] It closes at the
+/// first later line before the end whose body is `#+end_NAME`, case ignored. With no such line it
+/// is no block."
+fn block(lines: &[Line], at: usize, end: usize) -> Option<Element> {
+    let name = block_name(&lines[at])?;
+    let closer = (at + 1..end).find(|index| is_block_closer(&lines[*index], name))?;
+    Some(match verbatim_detail(name) {
+        Some(detail) => Element::VerbatimBlock { closer, detail },
+        None => Element::GreaterBlock {
+            closer,
+            detail: greater_detail(name),
+        },
+    })
+}
+
+/// Rule 3: "NAME is one or more non-blank bytes."
+fn block_name<'t>(line: &Line<'t>) -> Option<&'t [u8]> {
+    let opener = b"#+begin_";
+    if !starts_with_letters(line.body, opener) {
+        return None;
+    }
+    let name = first_run(&line.body[opener.len()..]);
+    (!name.is_empty()).then_some(name)
+}
+
+fn is_block_closer(line: &Line, name: &[u8]) -> bool {
+    let closer = b"#+end_";
+    starts_with_letters(line.body, closer) && same_letters(&line.body[closer.len()..], name)
+}
+
+/// Kind 9: "1 comment, 2 example, 3 export, 4 src, 5 verse".
+fn verbatim_detail(name: &[u8]) -> Option<u32> {
+    let names: [(&[u8], u32); 5] = [
+        (b"comment", 1),
+        (b"example", 2),
+        (b"export", 3),
+        (b"src", 4),
+        (b"verse", 5),
+    ];
+    let found = names
+        .iter()
+        .find(|(verbatim, _)| same_letters(name, verbatim));
+    found.map(|(_, detail)| *detail)
+}
+
+/// Kind 8: "1 quote, 2 center, 3 any other name".
+fn greater_detail(name: &[u8]) -> u32 {
+    if same_letters(name, b"quote") {
+        1
+    } else if same_letters(name, b"center") {
+        2
+    } else {
+        3
+    }
+}
+
+/// Rule 4: "closes at the first later `:END:` line before the end, else it is no drawer."
+fn drawer_closer(lines: &[Line], at: usize, end: usize) -> Option<usize> {
+    if !is_drawer_opener(&lines[at]) {
+        return None;
+    }
+    first_end_line(lines, at + 1, end)
+}
+
+/// Rule 4: "body `:NAME:`, NAME one or more letters, digits, `-`, `_`, not `END`".
+fn is_drawer_opener(line: &Line) -> bool {
+    let inside = line.body.strip_prefix(b":");
+    let Some(name) = inside.and_then(|rest| rest.strip_suffix(b":")) else {
+        return false;
+    };
+    !name.is_empty() && name.iter().all(|byte| is_drawer_byte(*byte)) && !same_letters(name, b"END")
+}
+
+fn is_drawer_byte(byte: u8) -> bool {
+    byte.is_ascii_alphanumeric() || matches!(byte, b'-' | b'_')
+}
+
+/// Rule 5: "lines whose body starts with `|`; lines right after whose body starts with `#+TBLFM:`
+/// belong to it."
+fn table(lines: &[Line], at: usize, end: usize) -> Element {
+    let rows_end = run_end(lines, at, end, is_row_line);
+    Element::Table {
+        rows_end,
+        end: run_end(lines, rows_end, end, is_formula_line),
+    }
+}
+
+fn is_row_line(line: &Line) -> bool {
+    line.body.starts_with(b"|")
+}
+
+fn is_formula_line(line: &Line) -> bool {
+    starts_with_letters(line.body, b"#+TBLFM:")
+}
+
+/// Kind 11: "0 standard, 1 rule (`|-`)".
+pub fn row_detail(line: &Line) -> u32 {
+    u32::from(line.body.starts_with(b"|-"))
+}
+
+/// Rule 6: "lines whose body is `#` or starts with `#` and a blank byte."
+fn is_comment_line(line: &Line) -> bool {
+    is_mark_line(line, b'#')
+}
+
+/// Rule 7: "the same with `:`."
+fn is_fixed_width_line(line: &Line) -> bool {
+    is_mark_line(line, b':')
+}
+
+fn is_mark_line(line: &Line, mark: u8) -> bool {
+    match line.body {
+        [first] => *first == mark,
+        [first, second, ..] => *first == mark && is_blank_byte(*second),
+        [] => false,
+    }
+}
+
+/// "Runs of lines under 5 to 7 are as long as they can be."
+fn run_end(lines: &[Line], at: usize, end: usize, belongs: fn(&Line) -> bool) -> usize {
+    let stop = (at..end).find(|index| !belongs(&lines[*index]));
+    stop.unwrap_or(end)
+}
+
+/// Rule 8: "a body of five or more `-` only."
+fn is_horizontal_rule(line: &Line) -> bool {
+    line.body.len() >= 5 && line.body.iter().all(|byte| *byte == b'-')
+}
+
+/// Rule 9: "the body starts with `#+`, and its first run holds a later colon with at least one byte
+/// between. The last colon of the run ends the key." The value is what follows that colon.
+fn keyword_value(line: &Line) -> Option<Span> {
+    let key_and_more = first_run(line.body).strip_prefix(b"#+")?;
+    let key = key_and_more.iter().rposition(|byte| *byte == b':')?;
+    (key > 0).then(|| line.value_after(b"#+".len() + key + b":".len()))
+}
+
+/// Rule 10: "this line, up to a blank line, the end, or a line where one of 3 to 9 holds."
+fn paragraph_end(lines: &[Line], at: usize, end: usize) -> usize {
+    let stops =
+        |index: &usize| lines[*index].is_blank() || rules_3_to_9(lines, *index, end).is_some();
+    (at + 1..end).find(stops).unwrap_or(end)
+}

@@ -1,0 +1,169 @@
+//! Document 01, "Sample readings".
+
+use plain_reader::{answer, lookup, read, Reading};
+
+/// The lines of `text` with byte 10 after each.
+fn book(lines: &[&str]) -> Vec<u8> {
+    lines
+        .iter()
+        .flat_map(|line| [line.as_bytes(), b"\n"])
+        .flatten()
+        .copied()
+        .collect()
+}
+
+fn table(text: &[u8]) -> Vec<[u32; 7]> {
+    match read(text) {
+        Reading::Table(records) => records.iter().map(|record| record.numbers()).collect(),
+        refusal => panic!("{refusal:?}"),
+    }
+}
+
+fn kinds(text: &[u8]) -> Vec<u32> {
+    table(text).iter().map(|numbers| numbers[0]).collect()
+}
+
+/// Greater blocks one in the other, `levels` deep.
+fn nested_blocks(levels: usize) -> Vec<u8> {
+    let openers = (1..=levels).map(|level| format!("#+begin_b{level}\n"));
+    let closers = (1..=levels).rev().map(|level| format!("#+end_b{level}\n"));
+    openers.chain(closers).collect::<String>().into_bytes()
+}
+
+#[test]
+fn an_order_with_its_drawer() {
+    let text = book(&["* A", ":PROPERTIES:", ":VIN: 7", ":END:", "", "hi"]);
+    assert_eq!(text.len(), 35);
+    let expected = [
+        [1, 0, 35, 0, 35, 0, 0],
+        [2, 0, 35, 4, 35, 0, 1],
+        [3, 4, 35, 4, 35, 1, 0],
+        [5, 4, 32, 17, 25, 2, 0],
+        [6, 17, 25, 23, 24, 3, 0],
+        [16, 32, 35, 32, 35, 2, 0],
+    ];
+    assert_eq!(table(&text), expected);
+    assert_eq!(lookup(&text, 0, b"vin"), (0, 23, 24));
+}
+
+#[test]
+fn a_blank_line_above_the_drawer() {
+    let text = book(&["* A", "", ":PROPERTIES:", ":VIN: 7", ":END:"]);
+    assert_eq!(text.len(), 32);
+    assert_eq!(kinds(&text), [1, 2, 3, 7, 16]);
+    assert_eq!(lookup(&text, 0, b"vin"), (5, 0, 0));
+}
+
+#[test]
+fn a_heading_inside_an_open_block() {
+    let text = book(&["#+begin_src", "* A", "#+end_src"]);
+    assert_eq!(text.len(), 26);
+    assert_eq!(kinds(&text), [1, 3, 16, 2, 3, 16]);
+}
+
+#[test]
+fn the_empty_text() {
+    assert_eq!(table(b""), [[1, 0, 0, 0, 0, 0, 0]]);
+}
+
+#[test]
+fn a_star_needs_a_space() {
+    assert_eq!(kinds(b"*"), [1, 3, 16]);
+    assert_eq!(kinds(b"* "), [1, 2]);
+}
+
+#[test]
+fn a_rule_needs_five_hyphens() {
+    assert_eq!(kinds(b"----"), [1, 3, 16]);
+    assert_eq!(kinds(b"-----"), [1, 3, 14]);
+}
+
+#[test]
+fn node_properties_and_plus() {
+    let with = |line| kinds(&book(&["* A", ":PROPERTIES:", line, ":END:"]));
+    assert_eq!(with(":+:"), [1, 2, 3, 7, 16]);
+    assert_eq!(with(":A++:"), [1, 2, 3, 7, 16]);
+    assert_eq!(with(":A+:"), [1, 2, 3, 5, 6]);
+}
+
+#[test]
+fn a_keyword_needs_a_byte_before_its_colon() {
+    assert_eq!(kinds(b"#+:"), [1, 3, 16]);
+    assert_eq!(kinds(b"#+::"), [1, 3, 15]);
+}
+
+#[test]
+fn the_longest_text() {
+    assert_eq!(kinds(&[b'a'; 65_536]), [1, 3, 16]);
+    assert_eq!(read(&[b'a'; 65_537]), Reading::TooLong);
+    assert_eq!(answer(&[b'a'; 65_537], &mut []), (1, 0));
+    assert_eq!(lookup(&[b'a'; 65_537], 0, b""), (1, 0, 0));
+}
+
+#[test]
+fn the_greatest_depth() {
+    assert_eq!(kinds(&nested_blocks(32)).len(), 2 + 32);
+    assert_eq!(read(&nested_blocks(33)), Reading::TooDeep);
+    assert_eq!(answer(&nested_blocks(33), &mut []), (2, 0));
+}
+
+#[test]
+fn room_exact_and_one_less() {
+    let text = book(&["* A", ":PROPERTIES:", ":VIN: 7", ":END:", "", "hi"]);
+    let mut short = [9; 41];
+    assert_eq!(answer(&text, &mut short), (3, 6));
+    assert_eq!(short, [9; 41]);
+    let mut exact = [9; 42];
+    assert_eq!(answer(&text, &mut exact), (0, 6));
+    assert_eq!(exact.as_slice(), table(&text).concat());
+    let mut longer = [9; 44];
+    assert_eq!(answer(&text, &mut longer), (0, 6));
+    assert_eq!(longer[42..], [9; 2]);
+}
+
+/// "Easy wrong turns": one text for each.
+mod easy_wrong_turns {
+    use super::*;
+
+    #[test]
+    fn no_identity_from_an_outer_or_earlier_heading() {
+        let text = book(&["* A", ":PROPERTIES:", ":VIN: 7", ":END:", "** B", "* C"]);
+        assert_eq!(lookup(&text, 0, b"VIN"), (0, 23, 24));
+        assert_eq!(lookup(&text, 31, b"VIN"), (5, 0, 0));
+        assert_eq!(lookup(&text, 36, b"VIN"), (5, 0, 0));
+    }
+
+    #[test]
+    fn the_first_closer_closes() {
+        let text = book(&["#+begin_a", "#+begin_a", "#+end_a", "#+end_a"]);
+        assert_eq!(kinds(&text), [1, 3, 8, 16, 16]);
+        let text = book(&["#+begin_a", "#+begin_b", "#+end_a", "#+end_b"]);
+        assert_eq!(kinds(&text), [1, 3, 8, 16, 16]);
+    }
+
+    #[test]
+    fn an_unclosed_opener_does_not_end_a_paragraph() {
+        assert_eq!(kinds(&book(&["a", "#+begin_src", ":LOG:"])), [1, 3, 16]);
+    }
+
+    #[test]
+    fn nothing_runs_across_a_heading() {
+        assert_eq!(
+            kinds(&book(&[":LOG:", "* A", ":END:"])),
+            [1, 3, 16, 2, 3, 16]
+        );
+    }
+
+    #[test]
+    fn blank_lines_go_to_the_last_element() {
+        let text = book(&["* A", "a", "", "* B"]);
+        let expected = [
+            [1, 0, 11, 0, 11, 0, 0],
+            [2, 0, 7, 4, 7, 0, 1],
+            [3, 4, 7, 4, 7, 1, 0],
+            [16, 4, 7, 4, 6, 2, 0],
+            [2, 7, 11, 11, 11, 0, 1],
+        ];
+        assert_eq!(table(&text), expected);
+    }
+}
