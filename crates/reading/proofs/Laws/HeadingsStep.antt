@@ -27,18 +27,21 @@ pub sectionEntries-same : (s : List ℕ) (c : Record) (q k : ℕ) → sectionEnt
 unfolding sectionEntries sectionRecord sectionStart sectionEnd
 sectionEntries-same s c q k = refl
 
-module _ (s : List ℕ) (p q k : ℕ) where
-  pub sectionEntries-none : let e = nextLine isHeading s p in e ≤ firstLine s p e → sectionEntries s (sectionOf p) q k ≡ []
+-- from byte p to the next heading line, at byte e; the first non-blank line is at byte a
+module _ (s : List ℕ) (p q k e a : ℕ) (to : e ≡ nextLine isHeading s p) (first : a ≡ firstLine s p e) where
+  pub sectionEntries-none : e ≤ a → sectionEntries s (sectionOf p) q k ≡ []
   unfolding sectionEntries sectionRecord sectionStart sectionEnd
-  sectionEntries-none h = rw (le-ltb _ _ h, sectionEntries)
+  sectionEntries-none h = rw (le-ltb _ _ (rw (first, to) at h), sectionEntries)
 
-  pub sectionEntries-some : let e = nextLine isHeading s p in let b = firstLine s p e in b < e
-      → sectionEntries s (sectionOf p) q k ≡ entry (rec Kind.section b e b e q 0) 0 ∷ entriesFrom s (elementsTo e) k 0 b (suc k)
+  pub sectionEntries-some : a < e
+      → sectionEntries s (sectionOf p) q k ≡ entry (rec Kind.section a e a e q 0) 0 ∷ entriesFrom s (elementsTo e) k 0 a (suc k)
   unfolding sectionEntries sectionRecord sectionStart sectionEnd holdsElements
   sectionEntries-some h =
-      let e = nextLine isHeading s p in
-      let b = firstLine s p e in
-      rw (lt-ltb b e h, sectionEntries) (rw (firstLine-twice s p e, entriesFrom-elements s (rec Kind.section b e b e q 0) k 0 b (suc k) tt))
+      let e′ = nextLine isHeading s p in
+      let a′ = firstLine s p e′ in
+      rw (first, to)
+      (rw (lt-ltb a′ e′ (rw (first, to) at h), sectionEntries)
+      (rw (firstLine-twice s p e′, entriesFrom-elements s (rec Kind.section a′ e′ a′ e′ q 0) k 0 a′ (suc k) tt)))
 
 -- ---- headings
 

@@ -21,7 +21,8 @@ use Rattle.reading.specs.Walk.{Entry, entry, entriesFrom, held, withHeld
 use Rattle.reading.specs.Walk.{readingEntries, State, absorb, absorbed}
 use Rattle.reading.proofs.Laws.Absorb.{absorbed-cons, absorbed-append, absorbed-stuck, absorbed-counted, absorbed-resume}
 use Rattle.reading.proofs.Laws.EntriesStep.{entriesFrom-step, linesTo-to, held-leaf, held-elements, held-lines}
-use Rattle.reading.proofs.Laws.HeadingsStep.{sectionEntries-same, sectionEntries-some, headingsFrom-step}
+use Rattle.reading.proofs.Laws.HeadingsStep.{sectionEntries-same, sectionEntries-none, sectionEntries-some, headingsFrom-none}
+use Rattle.reading.proofs.Laws.HeadingsStep.{headingsFrom-step}
 
 -- some records, and those after them by their first index
 absorbed-then : (st : State) {st′ : State} (x : List Entry) (f : ℕ → List Entry) → st′ ≡ absorbed st x
@@ -106,14 +107,22 @@ lines-turn s rows e q d p st st′ h t a =
 
 -- ---- sections and headings
 
-pub section-turn : (s : List ℕ) (p q : ℕ) (st st₁ : State)
-    → let e = nextLine isHeading s p in let b = firstLine s p e in b < e → st₁ ≡ absorb st (entry (rec Kind.section b e b e q 0) 0)
-    → absorbed st₁ (entriesFrom s (elementsTo e) (st .sink .count) 0 b (st₁ .sink .count)) ≡ absorbed st (sectionEntries s (sectionOf p) q (st .sink .count))
-section-turn s p q st st₁ h a =
-    let e = nextLine isHeading s p in
-    let b = firstLine s p e in
-    let k = st .sink .count in
-    absorb-then st _ (entriesFrom s (elementsTo e) k 0 b) a ∙ rw (sectionEntries-some s p q k h)
+-- the section from byte p to the next heading line, at byte e; its first non-blank line is at byte a
+module _ (s : List ℕ) (p q e a : ℕ) (st : State) (to : e ≡ nextLine isHeading s p) (first : a ≡ firstLine s p e) where
+  pub section-none : e ≤ a → st ≡ absorbed st (sectionEntries s (sectionOf p) q (st .sink .count))
+  unfolding absorbed
+  section-none h = rw (sectionEntries-none s p q (st .sink .count) e a to first h)
+
+  pub section-turn : (st₁ : State) → a < e → st₁ ≡ absorb st (entry (rec Kind.section a e a e q 0) 0)
+      → absorbed st₁ (entriesFrom s (elementsTo e) (st .sink .count) 0 a (st₁ .sink .count))
+      ≡ absorbed st (sectionEntries s (sectionOf p) q (st .sink .count))
+  section-turn st₁ h b =
+      let k = st .sink .count in
+      absorb-then st _ (entriesFrom s (elementsTo e) k 0 a) b ∙ rw (sectionEntries-some s p q k e a to first h)
+
+pub headings-none : (s : List ℕ) (hs : List (ℕ × ℕ)) (p : ℕ) (st : State) → length s ≤ p → st ≡ absorbed st (headingsFrom s hs p (st .sink .count))
+unfolding absorbed
+headings-none s hs p st h = rw (headingsFrom-none s hs p (st .sink .count) h)
 
 -- the heading at byte p, and its section, which ends at byte e
 pub heading-turn : (s : List ℕ) (hs : List (ℕ × ℕ)) (p e : ℕ) (st st₁ st₂ : State) → p < length s

@@ -17,12 +17,11 @@ use Rattle.reading.specs.Reading.{nearest}
 use Rattle.reading.specs.Walk.{State, state, entry, absorb, absorbed, headingsFrom, HeadingOrEnd, HeadingLine}
 use Rattle.reading.proofs.Basics.{on}
 use Rattle.reading.proofs.Laws.Absorb.{absorb-any}
-use Rattle.reading.proofs.Laws.HeadingsStep.{headingsFrom-none}
 use Rattle.reading.proofs.Laws.Parents.{Earlier, lastIndex}
 use Rattle.reading.proofs.Laws.SectionPlaces.{next-heading, heading-stars, heading-line, heading-start, heading-place, heading-next}
 use Rattle.reading.proofs.Laws.SectionPlaces.{headingLine-order}
 use Rattle.reading.proofs.Laws.Tracked.{Tracked, tracked-none, tracked-heading, tracked-turn}
-use Rattle.reading.proofs.Laws.Turns.{heading-turn}
+use Rattle.reading.proofs.Laws.Turns.{headings-none, heading-turn}
 use Rattle.reading.proofs.headings.read_headings.Statement.{statement}
 use Rattle.reading.proofs.headings.read_headings.Tie as tie
 
@@ -160,11 +159,9 @@ loop-again c =
     }
 
 returns : tie.Need-returns Inv-loop μ-loop
-unfolding absorbed
 returns c =
     let loop = c .before .loop in
-    let inv = loop .inv in
-    (rw (headingsFrom-none _ (inv .earlier) _ (loop .kept .count) (c .loop-test .left)) at (inv .same), omega arith)
+    (headings-none _ _ _ _ (c .loop-test .left) ∙ loop .inv .same, omega arith)
 
 pub read-headings-spec : {M : Type 1} → statement M
 read-headings-spec =

@@ -2,6 +2,8 @@
 -- headings from the first heading line on.
 -- Assumes nothing.
 use mathlib.Core.Path.{_≡_, sym, _∙_}
+use mathlib.Core.List.{List}
+use Prim.Native.Nat.{ℕ}
 use native.Mathlib.Omega.{arith}
 use lib.ListN.{length}
 use borrow.Author.Needs.{needs}
@@ -15,24 +17,22 @@ use Rattle.reading.proofs.Laws.Turns.{reading-turn}
 use Rattle.reading.proofs.headings.walk.Statement.{statement}
 use Rattle.reading.proofs.headings.walk.Tie as tie
 
-first : (c : tie.After-next-heading) → c .next-heading .result ≡ nextLine isHeading (c .before .before .before .before .before .before .before .args .text .now) 0
-first c =
-    let s = c .before .before .before .before .before .before .before .args .text .now in
-    c .next-heading .ensures ∙ nextLine-upTo s (length s) 0 (omega arith) (omega arith)
+module _ (c : tie.After-next-heading) where
+  abbrev s : List ℕ
+  s = c .before .before .before .before .before .before .before .args .text .now
+
+  first : c .next-heading .result ≡ nextLine isHeading s 0
+  first = c .next-heading .ensures ∙ nextLine-upTo s (length s) 0 (omega arith) (omega arith)
 
 read-section-requires : tie.Need-read-section-requires
 read-section-requires c κs =
     let at-next = c .before in
-    let start = at-next .before .before .before .before .before .before .before in
-    let s = start .args .text .now in
-    (omega arith, start .pre .0, lineStart-zero s, first at-next, sym (placeAt-zero s), omega arith, omega arith)
+    (omega arith, omega arith, lineStart-zero (s at-next), first at-next, sym (placeAt-zero (s at-next)), omega arith, omega arith)
 
 read-headings-requires : tie.Need-read-headings-requires
 read-headings-requires c κs =
     let at-next = c .before .before .before .before .before in
-    let start = at-next .before .before .before .before .before .before .before in
-    let s = start .args .text .now in
-    (rw (first at-next) (next-heading s 0 (start .pre .0) (lineStart-zero s)), omega arith)
+    (rw (first at-next) (next-heading (s at-next) 0 (omega arith) (lineStart-zero (s at-next))), omega arith)
 
 returns : tie.Need-returns
 returns c =

@@ -7,10 +7,9 @@ use native.Mathlib.Omega.{arith}
 use lib.ListN.{length}
 use borrow.Author.Needs.{needs}
 use Rattle.rules.specs.Places.{placeAt}
-use Rattle.reading.specs.Walk.{absorbed, Range}
-use Rattle.reading.proofs.Laws.HeadingsStep.{sectionEntries-none}
+use Rattle.reading.specs.Walk.{Range}
 use Rattle.reading.proofs.Laws.SectionPlaces.{section-end, section-first, section-range, section-place}
-use Rattle.reading.proofs.Laws.Turns.{section-turn}
+use Rattle.reading.proofs.Laws.Turns.{section-none, section-turn}
 use Rattle.reading.proofs.walk.read_section.Statement.{statement}
 use Rattle.reading.proofs.walk.read_section.Tie as tie
 
@@ -40,15 +39,10 @@ placed c =
     c .first-place .ensures ∙ section-place _ _ _ (pre .1) (pre .2) (pre .3) _ (at-first .first-line .ensures) _ (pre .4)
 
 returns : tie.Need-returns
-unfolding absorbed
 returns c =
     let at-first = c .before in
-    let args = start at-first .args in
-    let pre = start at-first .pre in
     let bounds = order at-first in
-    let none = sectionEntries-none (args .text .now) (args .from) (args .parent) (args .sink .count)
-    (rw (at-first .first-line .ensures, pre .3) at (c .if1 .taken)) in
-    (rw none, omega arith)
+    (section-none _ _ _ _ _ _ (start at-first .pre .3) (at-first .first-line .ensures) (c .if1 .taken), omega arith)
 
 emit-requires : tie.Need-emit-requires
 emit-requires c κs = let bounds = order (c .before .before .before) in search needs
@@ -66,11 +60,9 @@ returns-2 c =
     let at-emit = at-read .before .before .before .before in
     let at-test = at-emit .before .before .before in
     let at-first = at-test .before in
-    let first = at-first .first-line .ensures in
-    let to = start at-first .pre .3 in
     let bounds = order at-first in (
-      (rw (first, to) at (at-read .read-elements .ensures .0))
-          ∙ section-turn _ _ _ _ _ (rw (first, to) at (at-test .if1 .left)) (rw (first, to) at (at-emit .emit .ensures .0)),
+      at-read .read-elements .ensures .0
+          ∙ section-turn _ _ _ _ _ _ (start at-first .pre .3) (at-first .first-line .ensures) _ (at-test .if1 .left) (at-emit .emit .ensures .0),
       omega arith,
     )
 

@@ -1,0 +1,31 @@
+//! How long a reading takes beside a count of byte 10 over the same text and
+//! beside an independent plain reader.
+//!
+//!     bench            prints the table
+//!     bench --check    exits with 1 if a limit of `check` is passed
+
+mod check;
+mod contest;
+mod count;
+mod report;
+mod texts;
+
+use std::env;
+use std::process::ExitCode;
+
+fn main() -> ExitCode {
+    let arguments: Vec<String> = env::args().skip(1).collect();
+    let arguments: Vec<&str> = arguments.iter().map(String::as_str).collect();
+    match arguments[..] {
+        [] => {
+            report::print();
+            ExitCode::SUCCESS
+        }
+        ["--check"] if check::passes() => ExitCode::SUCCESS,
+        ["--check"] => ExitCode::FAILURE,
+        _ => {
+            eprintln!("usage: bench [--check]");
+            ExitCode::from(2)
+        }
+    }
+}

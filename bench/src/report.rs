@@ -1,0 +1,77 @@
+//! The table of times and ratios.
+
+use std::time::Duration;
+
+use comaltzex::RECORD_SIZE;
+
+use crate::contest::{self, contest, median, median_ratio, Effort};
+use crate::texts::{self, Text};
+
+const SIZES: [usize; 3] = [4 * 1024, 16 * 1024, 64 * 1024];
+
+const EFFORT: Effort = Effort {
+    least: 3,
+    most: 1001,
+    time: Duration::from_millis(500),
+};
+
+const EXPLANATION: &str = "\
+Nanoseconds a byte, medians of interleaved samples; a ratio is the median of each
+round's own. The machine is noisy: only ratios within one run count.
+
+  read    comaltzex_read, with a table that fits
+  count   byte 10 counted one byte at a time
+  vector  byte 10 counted by vector instructions
+  plain   the independent plain reader
+";
+
+pub fn print() {
+    println!("{EXPLANATION}");
+    println!(
+        "{:<16}{:>7}{:>9}{:>10}{:>8}{:>8}{:>10}{:>12}{:>12}",
+        "text", "bytes", "records", "read", "count", "vector", "plain", "read/count", "read/plain"
+    );
+    for size in SIZES {
+        for text in texts::ordinary(size) {
+            print_row(&text);
+        }
+    }
+    for size in SIZES {
+        for text in texts::hostile(size) {
+            print_row(&text);
+        }
+    }
+}
+
+fn print_row(text: &Text) {
+    let mut table = agreed_table(text);
+    let contenders = [
+        contest::comaltzex,
+        contest::count_one_at_a_time,
+        contest::count_vectorised,
+        contest::plain_reader,
+    ];
+    let [read, count, vector, plain] = contest(&text.bytes, &mut table, contenders, &EFFORT);
+    println!(
+        "{:<16}{:>7}{:>9}{:>10.2}{:>8.2}{:>8.2}{:>10.2}{:>12.2}{:>12.2}",
+        text.name,
+        text.bytes.len(),
+        table.len() / RECORD_SIZE,
+        median(&read),
+        median(&count),
+        median(&vector),
+        median(&plain),
+        median_ratio(&read, &count),
+        median_ratio(&read, &plain)
+    );
+}
+
+/// The text's table, on which both readers must agree: a wrong reading has no speed.
+fn agreed_table(text: &Text) -> Vec<u32> {
+    let ours = contest::fitting_table(&text.bytes);
+    let mut theirs = vec![0; ours.len()];
+    let answer = plain_reader::answer(&text.bytes, &mut theirs);
+    let agreed = answer == (0, ours.len() / RECORD_SIZE) && ours == theirs;
+    assert!(agreed, "the readers differ on the text `{}`", text.name);
+    ours
+}

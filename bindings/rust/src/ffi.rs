@@ -1,0 +1,57 @@
+//! The static library's two functions, made safe. All unsafe code is here.
+
+/// The numbers of an answer, as in `comaltzex.h`.
+pub(crate) mod number {
+    pub(crate) const OK: u32 = 0;
+    pub(crate) const TOO_LONG: u32 = 1;
+    pub(crate) const TOO_DEEP: u32 = 2;
+    pub(crate) const NO_ROOM: u32 = 3;
+    pub(crate) const NO_HEADING: u32 = 4;
+    pub(crate) const NO_DRAWER: u32 = 5;
+    pub(crate) const NO_KEY: u32 = 6;
+    pub(crate) const BAD_KEY: u32 = 7;
+}
+
+/// `comaltzex_reading` of the header.
+#[repr(C)]
+pub(crate) struct Reading {
+    pub(crate) number: u32,
+    pub(crate) count: usize,
+}
+
+/// `comaltzex_part` of the header.
+#[repr(C)]
+pub(crate) struct Part {
+    pub(crate) number: u32,
+    pub(crate) start: usize,
+    pub(crate) end: usize,
+}
+
+extern "C" {
+    fn comaltzex_read(
+        text: *const u8,
+        text_len: usize,
+        table: *mut u32,
+        table_len: usize,
+    ) -> Reading;
+
+    fn comaltzex_lookup(
+        text: *const u8,
+        text_len: usize,
+        at: usize,
+        key: *const u8,
+        key_len: usize,
+    ) -> Part;
+}
+
+pub(crate) fn read(text: &[u8], table: &mut [u32]) -> Reading {
+    // SAFETY: each pointer and length are those of one slice, so the pointers are
+    // not null and the borrows keep both slices alive and apart. The library
+    // stays within these lengths, writes only the table and keeps no pointer.
+    unsafe { comaltzex_read(text.as_ptr(), text.len(), table.as_mut_ptr(), table.len()) }
+}
+
+pub(crate) fn lookup(text: &[u8], at: usize, key: &[u8]) -> Part {
+    // SAFETY: as in `read`; the library writes nothing, and `at` may be any number.
+    unsafe { comaltzex_lookup(text.as_ptr(), text.len(), at, key.as_ptr(), key.len()) }
+}

@@ -1,0 +1,57 @@
+//! Safe bindings to Comaltzex, a proved reader of Org order books.
+//!
+//! A text is read into a table of [`Record`]s: the document first, then each
+//! record followed at once by all that it holds. A lookup finds one property of
+//! one heading, in that heading's own property drawer. A text is bytes and need
+//! not be UTF-8; every place is a byte offset into it.
+//!
+//! ```
+//! use comaltzex::{Kind, LookupRefusal, Table};
+//!
+//! let text = b"* A\n:PROPERTIES:\n:VIN: 7\n:END:\n\nhi\n";
+//!
+//! let table = Table::read(text)?;
+//! let kinds: Vec<Kind> = table.records().map(|record| record.kind).collect();
+//! assert_eq!(
+//!     kinds,
+//!     [
+//!         Kind::Document,
+//!         Kind::Heading,
+//!         Kind::Section,
+//!         Kind::PropertyDrawer,
+//!         Kind::NodeProperty,
+//!         Kind::Paragraph,
+//!     ]
+//! );
+//!
+//! assert_eq!(comaltzex::lookup(text, 0, b"vin"), Ok(23..24));
+//! assert_eq!(comaltzex::property(text, 0, b"vin"), Ok(&b"7"[..]));
+//! assert_eq!(comaltzex::property(text, 0, b"fuel"), Err(LookupRefusal::NoKey));
+//! # Ok::<(), comaltzex::Refusal>(())
+//! ```
+//!
+//! [`read`] does the same into a table that the caller lends, and allocates
+//! nothing.
+
+#![deny(unsafe_code, unsafe_op_in_unsafe_fn, missing_docs)]
+
+#[allow(unsafe_code)]
+mod ffi;
+mod lookup;
+mod record;
+mod refusal;
+mod table;
+
+pub use lookup::{lookup, property};
+pub use record::{Kind, Record, Records};
+pub use refusal::{LookupRefusal, Refusal};
+pub use table::{read, Table};
+
+/// The longest text that is read, in bytes.
+pub const TEXT_LIMIT: usize = 65_536;
+/// The greatest depth of drawers and greater blocks that is read.
+pub const DEPTH_LIMIT: usize = 32;
+/// The longest key of a lookup, in bytes.
+pub const KEY_LIMIT: usize = 64;
+/// How many numbers a record takes in a table.
+pub const RECORD_SIZE: usize = 7;

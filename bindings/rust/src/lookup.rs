@@ -1,0 +1,36 @@
+use std::ops::Range;
+
+use crate::ffi::{self, number};
+use crate::LookupRefusal;
+
+/// Finds where the value of a property stands. The heading is the one whose line
+/// starts at byte `at`, a heading record's `span.start`; only its own property
+/// drawer counts. The key's ASCII letters match in either case. The value may be
+/// empty.
+///
+/// # Errors
+///
+/// The first that holds of [`TooLong`](LookupRefusal::TooLong),
+/// [`BadKey`](LookupRefusal::BadKey), [`NoHeading`](LookupRefusal::NoHeading),
+/// [`NoDrawer`](LookupRefusal::NoDrawer) and [`NoKey`](LookupRefusal::NoKey).
+pub fn lookup(text: &[u8], at: usize, key: &[u8]) -> Result<Range<usize>, LookupRefusal> {
+    let part = ffi::lookup(text, at, key);
+    match part.number {
+        number::OK => Ok(part.start..part.end),
+        number::TOO_LONG => Err(LookupRefusal::TooLong),
+        number::NO_HEADING => Err(LookupRefusal::NoHeading),
+        number::NO_DRAWER => Err(LookupRefusal::NoDrawer),
+        number::NO_KEY => Err(LookupRefusal::NoKey),
+        number::BAD_KEY => Err(LookupRefusal::BadKey),
+        other => unreachable!("a lookup answers 0, 1 or 4 to 7, not {other}"),
+    }
+}
+
+/// The value that [`lookup`] finds, itself.
+///
+/// # Errors
+///
+/// As for [`lookup`].
+pub fn property<'t>(text: &'t [u8], at: usize, key: &[u8]) -> Result<&'t [u8], LookupRefusal> {
+    lookup(text, at, key).map(|part| &text[part])
+}

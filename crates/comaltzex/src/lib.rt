@@ -1,0 +1,77 @@
+// The C interface: numbers in, numbers out. A slice is passed as a pointer and then a length.
+ghost use mathlib.Core.Path.{_≡_};
+ghost use Rattle.comaltzex.specs.Numbers.{ReadsAs, LooksUpAs};
+use lookup::lookup::Answer as Lookup;
+use lookup::lookup::lookup;
+use reading::answer::Answer;
+use reading::read::read;
+
+// The number of a reading call's answer and its count.
+#[repr(C)]
+pub struct Reading {
+    pub number: u32,
+    pub count: usize,
+}
+
+// The number of a lookup's answer and the value's two ends.
+#[repr(C)]
+pub struct Value {
+    pub number: u32,
+    pub start: usize,
+    pub end: usize,
+}
+
+// Reads a text into a lent table.
+#[no_mangle]
+pub extern "C" fn comaltzex_read(text: &[u8], table: &mut [u32]) -> Reading
+    ensures { λ r. ⌜ ReadsAs (now (text .entry)) (now (table .entry)) r (now (table .exit)) ⌝ }
+{
+    match read(text, table) {
+        Answer::Done(n) => Reading {
+            number: 0,
+            count: n,
+        },
+        Answer::TooLong => Reading {
+            number: 1,
+            count: 0,
+        },
+        Answer::TooDeep => Reading {
+            number: 2,
+            count: 0,
+        },
+        Answer::NoRoom(n) => Reading {
+            number: 3,
+            count: n,
+        },
+    }
+}
+
+// Looks a key up in the property drawer of the heading line that starts at a byte.
+#[no_mangle]
+pub extern "C" fn comaltzex_lookup(text: &[u8], at: usize, key: &[u8]) -> Value
+    ensures { λ r. ⌜ LooksUpAs (now (text .entry)) at (now (key .entry)) r ⌝ }
+{
+    match lookup(text, at, key) {
+        Lookup::Found(a, e) => Value {
+            number: 0,
+            start: a,
+            end: e,
+        },
+        Lookup::TooLong => refused(1),
+        Lookup::NoHeading => refused(4),
+        Lookup::NoDrawer => refused(5),
+        Lookup::NoKey => refused(6),
+        Lookup::BadKey => refused(7),
+    }
+}
+
+// A refusal: the empty part at byte 0.
+fn refused(number: u32) -> Value
+    ensures { λ r. ⌜ r ≡ record { number = number; start = 0; end = 0 } ⌝ }
+{
+    Value {
+        number: number,
+        start: 0,
+        end: 0,
+    }
+}

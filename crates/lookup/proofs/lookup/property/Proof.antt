@@ -1,0 +1,61 @@
+-- `lookup::lookup::property` meets its contract: the part that a lookup finds lies in the text, and that of a refusal is empty.
+-- Assumes nothing.
+use mathlib.Core.Path.{_≡_, refl, sym, _∙_}
+use mathlib.Core.Logic.{inl, inr}
+use mathlib.Core.List.{List, [], _∷_}
+use Prim.Native.Nat.{ℕ, _≤_}
+use native.Mathlib.Omega.{arith}
+use borrow.Author.Needs.{needs}
+use denote.Enum.Declared.{tagOf}
+use lib.ListN.{length}
+use types.Run.{OneOf, miss}
+use Rattle.lookup.specs.declared.lookup.Answer.{Answer}
+use Rattle.lookup.specs.declared.lookup.Answer.the-variants.{Found, TooLong, NoHeading, NoDrawer, NoKey, BadKey}
+use Rattle.lookup.specs.Lookup.{lookup, partOf}
+use Rattle.lookup.proofs.lookup.Answer.{the-type}
+use Rattle.lookup.proofs.Laws.Lookup.{lookup-inside}
+use Rattle.lookup.proofs.lookup.property.Statement.{statement}
+use Rattle.lookup.proofs.lookup.property.Tie as tie
+
+-- a refusal, by its place among the answers
+refused : (r : Answer) (s : List ℕ) → OneOf (1 ∷ 2 ∷ 3 ∷ 4 ∷ 5 ∷ []) (tagOf the-type r) → [] ≡ partOf r s
+refused (Found a e) s h = absurd (miss (1 ∷ 2 ∷ 3 ∷ 4 ∷ 5 ∷ []) 0 tt h)
+refused TooLong s h = refl
+refused NoHeading s h = refl
+refused NoDrawer s h = refl
+refused NoKey s h = refl
+refused BadKey s h = refl
+
+returns : tie.Need-returns
+returns c =
+    let at-call = c .before .before in
+    let a = at-call .before .before .before .args in
+    rw (← at-call .lookup .ensures .0) (refused (at-call .lookup .result) (a .text .now) (c .before .match .keys2))
+
+answered : (c : tie.After-start) → let a = c .before .before .before .before .before .args in
+    lookup (a .text .now) (a .at) (a .key .now) ≡ Found (c .start .given .0 .0) (c .start .given .0 .1 .0)
+answered c = sym (c .before .before .lookup .ensures .0) ∙ c .start .given .1
+
+inside : (c : tie.After-start) → let a = c .before .before .before .before .before .args in
+    (c .start .given .0 .0 ≤ c .start .given .0 .1 .0) × (c .start .given .0 .1 .0 ≤ length (a .text .now))
+inside c =
+    let a = c .before .before .before .before .before .args in
+    rw (answered c) at (lookup-inside (a .text .now) (a .at) (a .key .now))
+
+returns-2 : tie.Need-returns-2
+returns-2 c = rw (answered (c .before .before))
+
+pub property-spec : {M : Type 1} → statement M
+property-spec =
+    tie.close
+    (tie.spec
+    (λ c κs. search needs)
+    (λ c. search needs)
+    (λ c. search needs)
+    (λ c. search needs)
+    (λ c. search needs)
+    returns
+    (λ c. inside (c .before) .0)
+    (λ c. inside (c .before) .0)
+    (λ c. inside (c .before) .1)
+    returns-2)

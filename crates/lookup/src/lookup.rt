@@ -1,0 +1,54 @@
+ghost use mathlib.Core.Path.{_≡_};
+ghost use Rattle.lookup.specs.Lookup as spec;
+ghost use Rattle.lookup.specs.Promises.{Tied};
+use crate::stages::Drawer;
+use crate::stages::Heading;
+use crate::stages::Value;
+use crate::stages::find_drawer;
+use crate::stages::find_heading;
+use crate::stages::find_value;
+use crate::stages::is_bad_key;
+
+// The answer of a lookup, with the value's two ends.  [01 "Numbers of an answer"]
+pub enum Answer {
+    Found(usize, usize),
+    TooLong,
+    NoHeading,
+    NoDrawer,
+    NoKey,
+    BadKey,
+}
+
+// Looks a key up in the property drawer of the heading line that starts at a byte. Tries in turn: the text is over 65,536 bytes; the key is
+// bad; no heading line starts there; that heading has no property drawer; no line of it has the key.
+pub fn lookup(text: &[u8], at: usize, key: &[u8]) -> Answer
+    ensures { λ r. ⌜ r ≡ spec.lookup (now (text .entry)) at (now (key .entry)) ⌝ }
+    ensures { λ r. ⌜ Tied (now (text .entry)) at (now (key .entry)) r ⌝ }
+{
+    if 65536 < text.len() {
+        return Answer::TooLong;
+    }
+    if is_bad_key(key) {
+        return Answer::BadKey;
+    }
+    let Heading::Before(inner) = find_heading(text, at) else {
+        return Answer::NoHeading;
+    };
+    let Drawer::Lines(from, to) = find_drawer(text, inner) else {
+        return Answer::NoDrawer;
+    };
+    let Value::Part(start, end) = find_value(text, from, to, key) else {
+        return Answer::NoKey;
+    };
+    Answer::Found(start, end)
+}
+
+// The value itself: the part of the text that a lookup finds, and the empty part at byte 0 where it is refused.
+pub fn property<'a>(text: &'a [u8], at: usize, key: &[u8]) -> &'a [u8]
+    ensures { λ r. ⌜ now r ≡ spec.partOf (spec.lookup (now (text .entry)) at (now (key .entry))) (now (text .entry)) ⌝ }
+{
+    let Answer::Found(start, end) = lookup(text, at, key) else {
+        return &text[0..0];
+    };
+    &text[start..end]
+}

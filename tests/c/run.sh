@@ -1,0 +1,16 @@
+#!/bin/sh
+# Builds sample.c against the header and LIBDIR/libcomaltzex.a, and runs it.
+set -eu
+
+if [ $# -ne 1 ]; then
+    echo "usage: $0 LIBDIR" >&2
+    exit 2
+fi
+library=$1/libcomaltzex.a
+here=$(cd "$(dirname "$0")" && pwd)
+build=$(mktemp -d)
+trap 'rm -rf "$build"' EXIT
+
+"${CC:-cc}" -std=c99 -Wall -Wextra -pedantic -Werror \
+    -I "$here/../../include" -o "$build/sample" "$here/sample.c" "$library"
+"$build/sample"

@@ -1,0 +1,166 @@
+/* The C interface on document 01's samples and on each refusal. */
+#include "comaltzex.h"
+
+#include <stdio.h>
+#include <stdlib.h>
+#include <string.h>
+
+#define UNTOUCHED 0xABCDEF01u
+#define LENGTH(array) (sizeof(array) / sizeof((array)[0]))
+
+static const char FIRST[] = "* A\n:PROPERTIES:\n:VIN: 7\n:END:\n\nhi\n";
+static const char SECOND[] = "* A\n\n:PROPERTIES:\n:VIN: 7\n:END:\n";
+
+static const uint32_t FIRST_TABLE[] = {
+    1,  0,  35, 0,  35, 0, 0, /* document */
+    2,  0,  35, 4,  35, 0, 1, /* heading */
+    3,  4,  35, 4,  35, 1, 0, /* section */
+    5,  4,  32, 17, 25, 2, 0, /* property drawer */
+    6,  17, 25, 23, 24, 3, 0, /* node property */
+    16, 32, 35, 32, 35, 2, 0  /* paragraph */
+};
+
+static uint32_t table[COMALTZEX_RECORD_SIZE * 128];
+static char book[COMALTZEX_TEXT_LIMIT + 1];
+static unsigned checks;
+
+static void check(const char *what, size_t found, size_t wanted)
+{
+    if (found != wanted) {
+        fprintf(stderr, "c: %s: found %lu, wanted %lu\n", what,
+                (unsigned long)found, (unsigned long)wanted);
+        exit(1);
+    }
+    checks++;
+}
+
+static void clear_table(void)
+{
+    size_t i;
+    for (i = 0; i < LENGTH(table); i++)
+        table[i] = UNTOUCHED;
+}
+
+static void check_untouched(const char *what, size_t from)
+{
+    size_t i;
+    for (i = from; i < LENGTH(table); i++)
+        if (table[i] != UNTOUCHED)
+            break;
+    check(what, i, LENGTH(table));
+}
+
+/* Reads into a table of table_len numbers and checks the answer. */
+static void check_read(const char *what, const char *text, size_t text_len,
+                       size_t table_len, uint32_t number, size_t count)
+{
+    comaltzex_reading answer;
+    clear_table();
+    answer = comaltzex_read((const uint8_t *)text, text_len, table, table_len);
+    check(what, answer.number, number);
+    check(what, answer.count, count);
+    check_untouched(what, number == COMALTZEX_OK ? count * COMALTZEX_RECORD_SIZE : 0);
+}
+
+static void check_lookup(const char *what, const char *text, size_t text_len, size_t at,
+                         const char *key, uint32_t number, size_t start, size_t end)
+{
+    comaltzex_part part = comaltzex_lookup((const uint8_t *)text, text_len, at,
+                                           (const uint8_t *)key, strlen(key));
+    check(what, part.number, number);
+    check(what, part.start, start);
+    check(what, part.end, end);
+}
+
+static void first_sample(void)
+{
+    size_t i;
+    check_read("first sample", FIRST, 35, LENGTH(table), COMALTZEX_OK, 6);
+    for (i = 0; i < LENGTH(FIRST_TABLE); i++)
+        check("first sample's table", table[i], FIRST_TABLE[i]);
+    check_read("first sample, exact room", FIRST, 35, 42, COMALTZEX_OK, 6);
+    check_read("first sample, room 5", FIRST, 35, 35, COMALTZEX_NO_ROOM, 6);
+    check_read("first sample, 41 numbers", FIRST, 35, 41, COMALTZEX_NO_ROOM, 6);
+    check_read("first sample, no room", FIRST, 35, 0, COMALTZEX_NO_ROOM, 6);
+    check_lookup("vin", FIRST, 35, 0, "vin", COMALTZEX_OK, 23, 24);
+}
+
+static void second_sample(void)
+{
+    static const uint32_t kinds[] = {COMALTZEX_DOCUMENT, COMALTZEX_HEADING, COMALTZEX_SECTION,
+                                     COMALTZEX_DRAWER, COMALTZEX_PARAGRAPH};
+    size_t i;
+    check_read("second sample", SECOND, 32, LENGTH(table), COMALTZEX_OK, LENGTH(kinds));
+    for (i = 0; i < LENGTH(kinds); i++)
+        check("second sample's kinds", table[i * COMALTZEX_RECORD_SIZE + COMALTZEX_FIELD_KIND],
+              kinds[i]);
+    check_lookup("vin below a blank line", SECOND, 32, 0, "VIN", COMALTZEX_NO_DRAWER, 0, 0);
+}
+
+static void empty_text(void)
+{
+    static const uint32_t document[] = {1, 0, 0, 0, 0, 0, 0};
+    size_t i;
+    check_read("empty text", "", 0, COMALTZEX_RECORD_SIZE, COMALTZEX_OK, 1);
+    for (i = 0; i < LENGTH(document); i++)
+        check("empty text's table", table[i], document[i]);
+    check_lookup("empty text", "", 0, 0, "VIN", COMALTZEX_NO_HEADING, 0, 0);
+}
+
+static void lookup_refusals(void)
+{
+    char key[COMALTZEX_KEY_LIMIT + 2];
+    memset(key, 'k', sizeof(key) - 1);
+    key[sizeof(key) - 1] = '\0';
+    check_lookup("key of 65 bytes", FIRST, 35, 0, key, COMALTZEX_BAD_KEY, 0, 0);
+    check_lookup("key of 64 bytes", FIRST, 35, 0, key + 1, COMALTZEX_NO_KEY, 0, 0);
+    check_lookup("empty key", FIRST, 35, 0, "", COMALTZEX_BAD_KEY, 0, 0);
+    check_lookup("blank in key", FIRST, 35, 0, "V N", COMALTZEX_BAD_KEY, 0, 0);
+    check_lookup("newline in key", FIRST, 35, 0, "VIN\n", COMALTZEX_BAD_KEY, 0, 0);
+    check_lookup("plus at key's end", FIRST, 35, 0, "VIN+", COMALTZEX_BAD_KEY, 0, 0);
+    check_lookup("bad key, no heading", FIRST, 35, 1, "VIN+", COMALTZEX_BAD_KEY, 0, 0);
+    check_lookup("no heading", FIRST, 35, 1, "VIN", COMALTZEX_NO_HEADING, 0, 0);
+    check_lookup("past the end", FIRST, 35, 36, "VIN", COMALTZEX_NO_HEADING, 0, 0);
+    check_lookup("other key", FIRST, 35, 0, "FUEL", COMALTZEX_NO_KEY, 0, 0);
+}
+
+static void text_limit(void)
+{
+    memset(book, 'x', sizeof(book));
+    check_read("65,536 bytes", book, sizeof(book) - 1, LENGTH(table), COMALTZEX_OK, 3);
+    check_read("65,537 bytes", book, sizeof(book), LENGTH(table), COMALTZEX_TOO_LONG, 0);
+    check_lookup("lookup in 65,537 bytes", book, sizeof(book), 0, "", COMALTZEX_TOO_LONG, 0, 0);
+}
+
+/* Writes depth blocks, each in the one before, and gives the text's length. */
+static size_t nest_blocks(int depth)
+{
+    char *end = book;
+    int i;
+    for (i = 1; i <= depth; i++)
+        end += sprintf(end, "#+begin_b%d\n", i);
+    for (i = depth; i >= 1; i--)
+        end += sprintf(end, "#+end_b%d\n", i);
+    return (size_t)(end - book);
+}
+
+static void depth_limit(void)
+{
+    size_t length = nest_blocks(COMALTZEX_DEPTH_LIMIT);
+    check_read("depth 32", book, length, LENGTH(table), COMALTZEX_OK, 2 + 32);
+    length = nest_blocks(COMALTZEX_DEPTH_LIMIT + 1);
+    check_read("depth 33", book, length, LENGTH(table), COMALTZEX_TOO_DEEP, 0);
+    check_read("depth 33, no room", book, length, 0, COMALTZEX_TOO_DEEP, 0);
+}
+
+int main(void)
+{
+    first_sample();
+    second_sample();
+    empty_text();
+    lookup_refusals();
+    text_limit();
+    depth_limit();
+    printf("c: %u checks passed\n", checks);
+    return 0;
+}

@@ -1,0 +1,116 @@
+//! `compare [COUNT] [SEED]`: compares the library with the plain reader on seeded texts.
+//!
+//! Text number k of a run is the first text of a run with the seed SEED + k.
+
+use std::process::ExitCode;
+use std::time::{Duration, Instant};
+
+use comparison::check::{check, Tally};
+use comparison::escape::escape;
+use comparison::random::Random;
+use comparison::texts::{text, CLASSES};
+
+const COUNT: u64 = 200_000;
+const SEED: u64 = 1;
+
+/// The longest differing text that is printed whole.
+const SHOWN: usize = 4_000;
+
+/// How long smaller texts are tried after a difference.
+const LONGEST_SEARCH: Duration = Duration::from_secs(5);
+
+fn main() -> ExitCode {
+    let Ok(count) = argument(1, COUNT) else {
+        return usage();
+    };
+    let Ok(seed) = argument(2, SEED) else {
+        return usage();
+    };
+    let mut tally = Tally::default();
+    let mut texts = [0; CLASSES.len()];
+    for seed in (0..count).map(|index| seed.wrapping_add(index)) {
+        let mut random = Random::new(seed);
+        let (class, text) = text(&mut random);
+        texts[class as usize] += 1;
+        if let Err(difference) = check(&text, &mut random, &mut tally) {
+            println!(
+                "seed {seed}, {class:?} text of {} bytes: {difference}",
+                text.len()
+            );
+            report(text);
+            return ExitCode::FAILURE;
+        }
+    }
+    println!("{}", summary(count, &texts, &tally));
+    ExitCode::SUCCESS
+}
+
+fn argument(place: usize, default: u64) -> Result<u64, std::num::ParseIntError> {
+    let given = std::env::args().nth(place);
+    given.map_or(Ok(default), |word| word.parse())
+}
+
+fn usage() -> ExitCode {
+    eprintln!("usage: compare [COUNT] [SEED]");
+    ExitCode::FAILURE
+}
+
+fn summary(count: u64, texts: &[usize], tally: &Tally) -> String {
+    let classes = CLASSES.iter().zip(texts);
+    let classes: Vec<String> = classes
+        .map(|(class, seen)| format!("{class:?} {seen}"))
+        .collect();
+    format!(
+        "compare: {count} texts agree ({}); readings by number {}; lookups by number {}; \
+         records by kind {}",
+        classes.join(", "),
+        by_number(&tally.readings),
+        by_number(&tally.lookups),
+        by_number(&tally.kinds),
+    )
+}
+
+/// The numbers that were seen, each with how often.
+fn by_number(counts: &[usize]) -> String {
+    let seen = counts.iter().enumerate().filter(|(_, count)| **count > 0);
+    let seen: Vec<String> = seen
+        .map(|(number, count)| format!("{number}:{count}"))
+        .collect();
+    seen.join(" ")
+}
+
+/// Prints the text if it isn't too large to look at, and what is left of it when all is cut away
+/// that the difference doesn't need.
+fn report(text: Vec<u8>) {
+    if text.len() <= SHOWN {
+        println!("text \"{}\"", escape(&text));
+    }
+    let smaller = smaller(text);
+    if let Some(difference) = differs(&smaller) {
+        println!("smaller text \"{}\": {difference}", escape(&smaller));
+    }
+}
+
+/// Cuts away pieces of the text, ever smaller ones, while some difference stays.
+fn smaller(mut text: Vec<u8>) -> Vec<u8> {
+    let mut size = text.len();
+    let begin = Instant::now();
+    while size > 0 {
+        let mut at = 0;
+        while at < text.len() && begin.elapsed() < LONGEST_SEARCH {
+            let end = text.len().min(at + size);
+            let shorter = [&text[..at], &text[end..]].concat();
+            if differs(&shorter).is_some() {
+                text = shorter;
+            } else {
+                at = end;
+            }
+        }
+        size /= 2;
+    }
+    text
+}
+
+fn differs(text: &[u8]) -> Option<String> {
+    check(text, &mut Random::new(SEED), &mut Tally::default()).err()
+}

@@ -1,0 +1,202 @@
+//! One text against both readers: every answer of the library must be the plain reader's.
+
+use plain_reader::{Reading, Record};
+
+use crate::escape::escape;
+use crate::proper::check_proper;
+use crate::random::Random;
+use crate::subject::{fresh_table, LIBRARY, PLAIN_READER};
+use crate::words::{BAD_KEYS, KEYS};
+
+/// Numbers past the lent table, which no call may touch.
+const GUARD: usize = 9;
+
+/// Texts up to this length are looked up at every byte.
+const SMALL: usize = 400;
+
+/// The kind of a node property.
+const NODE_PROPERTY: u32 = 6;
+
+/// How many answers of each number, and how many records of each kind, the plain reader gave.
+#[derive(Default)]
+pub struct Tally {
+    pub readings: [usize; 4],
+    pub lookups: [usize; 8],
+    pub kinds: [usize; 17],
+}
+
+/// Compares the answers on `text`; the first difference is told in words.
+pub fn check(text: &[u8], random: &mut Random, tally: &mut Tally) -> Result<(), String> {
+    let reading = plain_reader::read(text);
+    for length in table_lengths(&reading, random) {
+        check_reading(text, &reading, length, tally)?;
+    }
+    let records = records_of(&reading);
+    if !records.is_empty() {
+        check_proper(text, records)?;
+    }
+    for record in records {
+        tally.kinds[record.kind as usize] += 1;
+    }
+    let keys = property_keys(text, records);
+    check_lookups_at_headings(text, &keys, random, tally)?;
+    check_lookups_elsewhere(text, random, tally)
+}
+
+/// The table; none of a refused reading.
+fn records_of(reading: &Reading) -> &[Record] {
+    match reading {
+        Reading::Table(records) => records,
+        Reading::TooLong | Reading::TooDeep => &[],
+    }
+}
+
+/// Table lengths around what the reading needs, multiples of seven and others.
+fn table_lengths(reading: &Reading, random: &mut Random) -> Vec<usize> {
+    match reading {
+        Reading::TooLong | Reading::TooDeep => vec![0, random.between(1, 700)],
+        Reading::Table(records) => {
+            let need = records.len() * 7;
+            let more = need + random.between(1, 13);
+            let less = random.below(need);
+            vec![need, need - 1, more, less]
+        }
+    }
+}
+
+fn check_reading(
+    text: &[u8],
+    reading: &Reading,
+    length: usize,
+    tally: &mut Tally,
+) -> Result<(), String> {
+    let mut expected_table = fresh_table(length + GUARD);
+    let mut table = expected_table.clone();
+    let expected = reading.answer(&mut expected_table[..length]);
+    let seen = (LIBRARY.read)(text, &mut table[..length]);
+    tally.readings[expected.0 as usize] += 1;
+    if expected != seen {
+        return Err(format!(
+            "reading, table of {length} numbers: plain reader {expected:?}, library {seen:?}"
+        ));
+    }
+    let differing = (0..table.len()).find(|place| expected_table[*place] != table[*place]);
+    differing.map_or(Ok(()), |place| {
+        Err(format!(
+            "reading, table of {length} numbers, answer {seen:?}: number {place} (record {}):\n  \
+             plain reader {:?}\n  library      {:?}",
+            place / 7,
+            record_around(&expected_table, place),
+            record_around(&table, place),
+        ))
+    })
+}
+
+fn record_around(table: &[u32], place: usize) -> &[u32] {
+    let start = place / 7 * 7;
+    &table[start..table.len().min(start + 7)]
+}
+
+fn check_lookup(text: &[u8], at: usize, key: &[u8], tally: &mut Tally) -> Result<(), String> {
+    let expected = (PLAIN_READER.lookup)(text, at, key);
+    let seen = (LIBRARY.lookup)(text, at, key);
+    tally.lookups[expected.0 as usize] += 1;
+    if expected == seen {
+        return Ok(());
+    }
+    Err(format!(
+        "lookup of \"{}\" at {at}: plain reader {expected:?}, library {seen:?}",
+        escape(key)
+    ))
+}
+
+/// Looks up at lines that begin with a star: all of them in a small text, some in a larger one.
+fn check_lookups_at_headings(
+    text: &[u8],
+    keys: &[Vec<u8>],
+    random: &mut Random,
+    tally: &mut Tally,
+) -> Result<(), String> {
+    let places: Vec<usize> = star_places(text).collect();
+    let some = places.len().min(6);
+    let places = if text.len() > SMALL {
+        (0..some)
+            .map(|_| places[random.below(places.len())])
+            .collect()
+    } else {
+        places
+    };
+    for at in places {
+        for key in keys {
+            check_lookup(text, at, key, tally)?;
+        }
+        for _ in 0..3 {
+            check_lookup(text, at, random.pick(KEYS), tally)?;
+        }
+        check_lookup(text, at, random.pick(BAD_KEYS), tally)?;
+    }
+    Ok(())
+}
+
+/// Looks up at every byte of a small text and just past it, at some bytes of a larger one.
+fn check_lookups_elsewhere(
+    text: &[u8],
+    random: &mut Random,
+    tally: &mut Tally,
+) -> Result<(), String> {
+    let mut places: Vec<usize> = if text.len() > SMALL {
+        (0..4).map(|_| random.below(text.len() + 2)).collect()
+    } else {
+        (0..text.len() + 2).collect()
+    };
+    places.push(usize::MAX);
+    for at in places {
+        check_lookup(text, at, random.pick(KEYS), tally)?;
+    }
+    check_lookup(
+        text,
+        random.below(text.len() + 2),
+        random.pick(BAD_KEYS),
+        tally,
+    )
+}
+
+/// Where a line begins with a star.
+fn star_places(text: &[u8]) -> impl Iterator<Item = usize> + '_ {
+    let starts_line = |at: usize| at == 0 || text[at - 1] == 10;
+    (0..text.len()).filter(move |at| text[*at] == b'*' && starts_line(*at))
+}
+
+/// Keys from the names of the text's node properties: each in the other letter case, and with every
+/// byte changed as if it were a letter.
+fn property_keys(text: &[u8], records: &[Record]) -> Vec<Vec<u8>> {
+    let properties = records.iter().filter(|record| record.kind == NODE_PROPERTY);
+    let lines = properties.map(|record| &text[record.start as usize..record.end as usize]);
+    let names = lines.map(property_name).take(4);
+    names
+        .flat_map(|name| {
+            [
+                other_case(name),
+                name.iter().map(|byte| byte ^ 32).collect(),
+            ]
+        })
+        .collect()
+}
+
+fn property_name(line: &[u8]) -> &[u8] {
+    let run = line.trim_ascii().split(u8::is_ascii_whitespace).next();
+    let marked = run.and_then(|run| run.strip_prefix(b":")?.strip_suffix(b":"));
+    let name = marked.unwrap_or_default();
+    name.strip_suffix(b"+").unwrap_or(name)
+}
+
+fn other_case(name: &[u8]) -> Vec<u8> {
+    let swap = |byte: &u8| {
+        if byte.is_ascii_alphabetic() {
+            byte ^ 32
+        } else {
+            *byte
+        }
+    };
+    name.iter().map(swap).collect()
+}

@@ -1,0 +1,13 @@
+//! Tests of the library from outside: by hand-written cases, and by comparison with the plain
+//! reader on seeded texts.
+
+pub mod case;
+pub mod check;
+pub mod escape;
+pub mod library;
+pub mod proper;
+pub mod random;
+pub mod run;
+pub mod subject;
+pub mod texts;
+pub mod words;

@@ -1,0 +1,127 @@
+//! One case against one subject.
+
+use std::cell::OnceCell;
+use std::fmt::Debug;
+
+use crate::case::{Case, Expectation, Numbers};
+use crate::escape::escape;
+use crate::subject::{fresh_table, LookupAnswer, ReadAnswer, Subject};
+
+/// What `subject` answers otherwise than the case expects.
+pub fn differences(case: &Case, subject: &Subject) -> Vec<String> {
+    let run = Run {
+        text: &case.text,
+        subject,
+        table: OnceCell::new(),
+    };
+    let results = case.expectations.iter().map(|expected| run.check(expected));
+    results.filter_map(Result::err).collect()
+}
+
+struct Run<'c> {
+    text: &'c [u8],
+    subject: &'c Subject,
+    /// The whole table, once it was read.
+    table: OnceCell<Result<Vec<Numbers>, String>>,
+}
+
+impl Run<'_> {
+    fn check(&self, expected: &Expectation) -> Result<(), String> {
+        match expected {
+            Expectation::Table(records) => self.check_table(records),
+            Expectation::Kinds(kinds) => {
+                let seen = self.table()?.iter().map(|record| record[0]).collect();
+                same("kinds", kinds, &seen)
+            }
+            Expectation::Count(count) => same("count", count, &self.table()?.len()),
+            Expectation::OfKind { kind, count } => {
+                let of_kind = |record: &&Numbers| record[0] == *kind;
+                let seen = self.table()?.iter().filter(of_kind).count();
+                same(&format!("records of kind {kind}"), count, &seen)
+            }
+            Expectation::Record { index, numbers } => {
+                let seen = self.table()?.get(*index);
+                same(&format!("record {index}"), &Some(numbers), &seen)
+            }
+            Expectation::Refused(number) => self.check_length(7, (*number, 0)),
+            Expectation::Length { length, answer } => self.check_length(*length, *answer),
+            Expectation::Lookup {
+                at,
+                key,
+                answer,
+                value,
+            } => self.check_lookup(*at, key, *answer, value.as_deref()),
+        }
+    }
+
+    fn table(&self) -> Result<&Vec<Numbers>, String> {
+        let table = self.table.get_or_init(|| self.read());
+        table.as_ref().map_err(String::clone)
+    }
+
+    /// Reads the whole table, after a call without room that says how much is needed.
+    fn read(&self) -> Result<Vec<Numbers>, String> {
+        let (number, count) = (self.subject.read)(self.text, &mut []);
+        same("number without room", &3, &number)?;
+        let at_most = self.text.len() + 3;
+        same("count at most", &at_most, &count.max(at_most))?;
+        let mut table = fresh_table(count * 7);
+        let answer = (self.subject.read)(self.text, &mut table);
+        same("answer", &(0, count), &answer)?;
+        Ok(table.chunks_exact(7).map(numbers_of).collect())
+    }
+
+    /// The expected table, and the answers in rooms that are one less and a little more.
+    fn check_table(&self, expected: &[Numbers]) -> Result<(), String> {
+        let records = self.table()?;
+        let count = expected.len();
+        same("count", &count, &records.len())?;
+        for (index, (expected, seen)) in expected.iter().zip(records).enumerate() {
+            same(&format!("record {index}"), expected, seen)?;
+        }
+        self.check_length(count * 7 - 1, (3, count))?;
+        self.check_length(count * 7 + 5, (0, count))
+    }
+
+    /// The answer when a table of `length` numbers is lent, and the numbers left as before.
+    fn check_length(&self, length: usize, answer: ReadAnswer) -> Result<(), String> {
+        let before = fresh_table(length);
+        let mut table = before.clone();
+        let seen = (self.subject.read)(self.text, &mut table);
+        same(&format!("answer in length {length}"), &answer, &seen)?;
+        let written = if answer.0 == 0 { answer.1 * 7 } else { 0 };
+        let changed = (written..length).find(|place| before[*place] != table[*place]);
+        same(
+            &format!("changed number in length {length}"),
+            &None,
+            &changed,
+        )
+    }
+
+    fn check_lookup(
+        &self,
+        at: usize,
+        key: &[u8],
+        answer: LookupAnswer,
+        value: Option<&[u8]>,
+    ) -> Result<(), String> {
+        let call = format!("lookup {at} \"{}\"", escape(key));
+        let seen = (self.subject.lookup)(self.text, at, key);
+        same(&call, &answer, &seen)?;
+        let part = self.text.get(seen.1..seen.2).unwrap_or_default();
+        value.map_or(Ok(()), |value| same(&call, &escape(value), &escape(part)))
+    }
+}
+
+fn numbers_of(record: &[u32]) -> Numbers {
+    let mut numbers = [0; 7];
+    numbers.copy_from_slice(record);
+    numbers
+}
+
+fn same<T: PartialEq + Debug + ?Sized>(what: &str, expected: &T, seen: &T) -> Result<(), String> {
+    if expected == seen {
+        return Ok(());
+    }
+    Err(format!("{what}: expected {expected:?}, seen {seen:?}"))
+}

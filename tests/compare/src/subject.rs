@@ -1,0 +1,36 @@
+//! What is tested: a reading call and a lookup.
+
+use crate::library;
+
+/// The answer of a reading call: its number and its count.
+pub type ReadAnswer = (u32, usize);
+
+/// The answer of a lookup: its number and the two ends of its part.
+pub type LookupAnswer = (u32, usize, usize);
+
+#[derive(Clone, Copy)]
+pub struct Subject {
+    pub name: &'static str,
+    pub read: fn(&[u8], &mut [u32]) -> ReadAnswer,
+    pub lookup: fn(&[u8], usize, &[u8]) -> LookupAnswer,
+}
+
+pub const PLAIN_READER: Subject = Subject {
+    name: "plain reader",
+    read: plain_reader::answer,
+    lookup: plain_reader::lookup,
+};
+
+pub const LIBRARY: Subject = Subject {
+    name: "library",
+    read: library::read,
+    lookup: library::lookup,
+};
+
+/// A table as it is before a call: no two neighbouring numbers are equal, and none is one that a
+/// reading of a small text would write.
+pub fn fresh_table(length: usize) -> Vec<u32> {
+    (0..length as u32)
+        .map(|place| 0xABCD_0000 ^ place)
+        .collect()
+}

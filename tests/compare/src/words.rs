@@ -1,0 +1,137 @@
+//! The words that seeded texts are made of.
+
+const NAME_OF_64: &[u8] = &[b'k'; 64];
+const NAME_OF_65: &[u8] = &[b'k'; 65];
+
+/// Keys that the lookup takes; most are names in the seeded texts.
+#[rustfmt::skip]
+pub const KEYS: &[&[u8]] = &[
+    b"VIN", b"vin", b"Request", b"a", b"END", b"a:b", b":", b"\xC3\xA9", NAME_OF_64, b"nowhere",
+];
+
+/// Keys that the lookup refuses.
+#[rustfmt::skip]
+pub const BAD_KEYS: &[&[u8]] = &[
+    b"", b"a+", b"+", b"a b", b" vin", b"vin\n", b"v\tin", b"vin\r", NAME_OF_65,
+];
+
+/// Single bytes and short pieces that rules speak of.
+#[rustfmt::skip]
+pub const LOOSE_PIECES: &[&[u8]] = &[
+    b"\n", b"\n", b"\n", b"\n", b" ", b"\t", b"\r", b"*", b"* ", b"** ", b":", b"#", b"+", b"#+",
+    b"|", b"|-", b"-", b"-----", b"a", b"A", b"e", b"_", b":a:", b":END:", b":end:", b"#+begin_a",
+    b"#+end_a", b"#+begin_src", b"#+END_SRC", b":PROPERTIES:", b"CLOSED:", b"#+TBLFM:", b"\x00",
+    b"\x0B", b"\x0C", b"\xC3\xA9", b"\xFF",
+];
+
+#[rustfmt::skip]
+pub const BLOCK_NAMES: &[&[u8]] = &[
+    b"src", b"example", b"export", b"comment", b"verse", b"quote", b"center", b"note", b"a", b"b",
+    b"srcx", b"vers", b"a:", b":a:", b"_", b"\xFF", b"[", b"{", b"\xC9", b"\xE9",
+];
+
+/// What may follow a block's name.
+#[rustfmt::skip]
+pub const BLOCK_PARAMETERS: &[&[u8]] = &[
+    b"", b"", b" lua", b"\t-n :x y", b"\rz", b" ",
+];
+
+/// Openers of drawers, and two that just miss.
+#[rustfmt::skip]
+pub const DRAWER_BODIES: &[&[u8]] = &[
+    b":LOGBOOK:", b":a:", b":0-_Z:", b":PROPERTIES:", b":\xC3\xA9:", b":a.b:",
+];
+
+#[rustfmt::skip]
+pub const ROWS: &[&[u8]] = &[
+    b"| a | 1 |", b"|-", b"|--+--|", b"|", b"| -", b"|\t",
+];
+
+/// `#+TBLFM:` lines, and one that just misses.
+#[rustfmt::skip]
+pub const FORMULAS: &[&[u8]] = &[
+    b"#+TBLFM: $2=1", b"#+tblfm:", b"#+TBLFM", b"#+TBLFM:x",
+];
+
+#[rustfmt::skip]
+pub const BLANK_LINES: &[&[u8]] = &[
+    b"\n", b"\n", b" \n", b"\t\n", b"\r\n", b" \r\t\n",
+];
+
+/// Bodies that hold a rule by themselves, and others that just miss one.
+#[rustfmt::skip]
+pub const LONE_BODIES: &[&[u8]] = &[
+    b"text", b"text and more", b"*", b"**bold**", b"*\tA", b":END:", b":END", b":END: x",
+    b":end:", b":a:", b":a: x", b":a b:", b"::", b":::", b":", b": x", b":\tx", b":\rx", b":x",
+    b"#", b"# x", b"#\tx", b"#\rx", b"#x", b"----", b"-----", b"------", b"----- -", b"-----x",
+    b"#+a: b", b"#+a:b", b"#+a:b: c", b"#+a", b"#+a b:", b"#+:", b"#+: a", b"#+:a", b"#+::",
+    b"#+::a", b"#+ a:", b"#+", b"#+begin_", b"#+begin_ a", b"#+begin: x", b"#+end:",
+    b"#+begin_a:", b"|", b"| a", b"|-", b"#+TBLFM: x", b"#+tblfm:", b"#+TBLFMS: x",
+    b":PROPERTIES:", b":PROPERTIES: x", b":PROPERTIES", b"CLOSED:", b"DEADLINE", b"- item",
+    b"+ item", b"1. item", b"[fn:1] note", b"\\begin{a}",
+];
+
+#[rustfmt::skip]
+pub const TITLES: &[&[u8]] = &[
+    b"A", b"", b"TODO b :tag:", b"\r", b" ", b"* c", b":PROPERTIES:",
+];
+
+/// Planning lines, and some that just miss.
+#[rustfmt::skip]
+pub const PLANNING_BODIES: &[&[u8]] = &[
+    b"CLOSED:", b"DEADLINE: <2026-02-03>", b"SCHEDULED: x", b"SCHEDULED:x CLOSED: y", b"CLOSED",
+    b"DEADLINES: x", b"CLOSED :", b"XDEADLINE: x",
+];
+
+#[rustfmt::skip]
+pub const PROPERTY_NAMES: &[&[u8]] = &[
+    b"VIN", b"REQUEST", b"a", b"a:b", b":", b"END", b"\xC3\xA9", b"[", NAME_OF_64, NAME_OF_65,
+];
+
+/// What may follow the name in a node property line.
+#[rustfmt::skip]
+pub const PROPERTY_ENDS: &[&[u8]] = &[
+    b":", b":", b":", b":", b": 7", b": 7", b": 7 8", b":\t7", b":\r7", b": :", b"+:", b"+: 9",
+    b"++: 9", b"", b":7",
+];
+
+/// Indentations, and two with byte 13, which does not indent.
+#[rustfmt::skip]
+pub const INDENTATIONS: &[&[u8]] = &[
+    b" ", b"\t", b"  \t", b"\r", b" \r",
+];
+
+/// What may stand after a body; the last two belong to it.
+#[rustfmt::skip]
+pub const TAILS: &[&[u8]] = &[
+    b" ", b"\t", b"\r", b" \t\r", b" x", b"\x0C",
+];
+
+#[rustfmt::skip]
+pub const OPENERS: &[&[u8]] = &[
+    b":a:\n", b"#+begin_a\n", b"#+begin_src\n", b":PROPERTIES:\n", b"\n",
+];
+
+#[rustfmt::skip]
+pub const CLOSERS: &[&[u8]] = &[
+    b":END:\n", b"#+end_a\n", b"#+end_src\n", b"* A\n", b"",
+];
+
+/// Openers and closers; the last is a heading line.
+#[rustfmt::skip]
+pub const MARKERS: &[&[u8]] = &[
+    b"#+begin_a\n", b"#+end_a\n", b"#+begin_b\n", b"#+end_b\n", b"#+begin_src\n", b"#+end_src\n",
+    b":a:\n", b":END:\n", b"\n", b"x\n", b"* A\n",
+];
+
+/// Lines that upset a nest of blocks.
+#[rustfmt::skip]
+pub const ODD_LINES: &[&[u8]] = &[
+    b":a:\n", b"#+begin_src\n", b"* A\n", b"text\n", b"\n", b"#+end_b3\n",
+];
+
+/// What stands innermost in a nest of blocks.
+#[rustfmt::skip]
+pub const INNERMOST: &[&[u8]] = &[
+    b"", b"text\n", b":a:\n:END:\n", b"#+begin_src\n#+end_src\n", b"#+begin_a\n",
+];
