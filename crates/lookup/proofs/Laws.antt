@@ -1,3 +1,4 @@
+pub mod Keys
 pub mod Stages
-pub mod Lookup
 pub mod Finding
+pub mod Lookup

@@ -1,6 +1,4 @@
 // Reads standard input and prints its table, a line of seven numbers a record, or the refusal.
-ghost use Prim.Native.Nat.{_+_, _*_, _≤_};
-ghost use lib.ListN.{length};
 
 mod output;
 

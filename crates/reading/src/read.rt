@@ -1,6 +1,3 @@
-ghost use mathlib.Core.Path.{_≡_};
-ghost use Prim.Native.Nat.{_≤_};
-ghost use lib.ListN.{length};
 ghost use Rattle.reading.specs.Promises.{Settled};
 use crate::answer::Answer;
 use crate::headings::walk;

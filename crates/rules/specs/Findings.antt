@@ -5,7 +5,6 @@ use mathlib.Core.List.{List, [], _∷_}
 use mathlib.Core.Option.{Option, none, some}
 use Prim.Native.Nat.{ℕ, suc, _+_, _≤_, _<_}
 use lib.ListN.{length, getD, take}
-use lib.Dec.{T}
 use Rattle.text.specs.Bytes.{isNonBlank, lower}
 use Rattle.text.specs.Runs.{word, all}
 use Rattle.text.specs.Lines.{Line, size, indent, body, firstRun}

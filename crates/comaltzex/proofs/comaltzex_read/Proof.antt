@@ -1,6 +1,6 @@
 -- `comaltzex::comaltzex_read` meets its contract: the number and the count are those of the answer that `read` gives.
 -- Assumes nothing.
-use mathlib.Core.Path.{_≡_, refl}
+use mathlib.Core.Path.{refl}
 use borrow.Author.Needs.{needs}
 use Rattle.comaltzex.proofs.comaltzex_read.Statement.{statement}
 use Rattle.comaltzex.proofs.comaltzex_read.Tie as tie

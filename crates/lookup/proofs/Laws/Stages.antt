@@ -4,7 +4,7 @@ use mathlib.Core.Path.{_≡_, refl, sym, ap, _∙_}
 use mathlib.Core.Bool.{true, false, _&&_, true≢false, false≢true}
 use mathlib.Core.List.{List, [], _∷_}
 use mathlib.Core.Option.{none, some}
-use Prim.Native.Nat.{ℕ, zero, suc, _+_, _-_, _<_}
+use Prim.Native.Nat.{ℕ, zero, suc, _+_, _-_, _≤_, _<_}
 use native.Mathlib.Omega.{arith}
 use native.Mathlib.Nat.{add-zero, add-assoc}
 use lib.ListN.{length, take, drop}
@@ -12,19 +12,21 @@ use lib.Seq.{take-nil}
 use borrow.Table.Steps.{cases}
 use Rattle.text.specs.Bytes.{isNewline}
 use Rattle.text.specs.Runs.{isEmpty, same}
-use Rattle.text.specs.Lines.{Line, joinFirst, lines, size, blankLine, body, bodyEnd, firstRun, valueStart, headLine, leading, blanks}
+use Rattle.text.specs.Lines.{Line, joinFirst, lines, size, blankLine, body, bodyEnd, firstRun, valueStart, headLine, tailLines, leading, blanks}
 use Rattle.text.specs.Parts.{linesIn, lineIn, firstLine, nextLine, LineStart}
 use Rattle.text.proofs.Basics.{and-first}
-use Rattle.text.proofs.Laws.Lines.{some-lines}
-use Rattle.text.proofs.Laws.LinesIn.{linesIn-drop}
+use Rattle.text.proofs.Laws.Lines.{some-lines, size-headLine, size-take-mono, bodyEnd-le}
+use Rattle.text.proofs.Laws.LinesIn.{linesIn-nil, linesIn-drop, lineIn-to, size-linesIn, within-linesIn, nextLine-from, nextLine-to}
 use Rattle.rules.specs.Headings.{isHeading}
-use Rattle.rules.specs.Elements.{Found, propertyDrawer}
-use Rattle.rules.specs.LineTests.{isPlanning, propertyName}
+use Rattle.rules.specs.Kind
+use Rattle.rules.specs.Elements.{Found, found, mapSome, propertiesBefore, propertyDrawer}
+use Rattle.rules.specs.LineTests.{isPlanning, isPropertiesLine, propertyName}
 use Rattle.rules.specs.declared.place.Place.{Place}
 use Rattle.rules.specs.declared.place.Place.the-variants.{AfterHeading, AfterPlanning}
-use Rattle.rules.specs.Places.{placeAt}
+use Rattle.rules.specs.Places.{placeAt, allowsProperties}
 use Rattle.rules.proofs.Basics.{options}
-use Rattle.rules.proofs.Laws.PropertyDrawers.{propertyName-blank, HeadingLine, headingLine-some, lineAfter, DrawerPlace, under-heading, under-planning}
+use Rattle.rules.proofs.Laws.PropertyDrawers.{propertyName-blank, HeadingLine, headingLine-some, headingLine-to}
+use Rattle.rules.proofs.Laws.PropertyDrawers.{lineAfter, DrawerPlace, under-heading, under-planning}
 use Rattle.lookup.specs.declared.stages.Heading.the-variants.{Before, Missing as NoHeading}
 use Rattle.lookup.specs.declared.stages.Drawer.the-variants.{Lines, Missing as NoDrawer}
 use Rattle.lookup.specs.declared.stages.Value.the-variants.{Part, Missing as NoValue}
@@ -93,37 +95,75 @@ module _ (s : List ℕ) (p : ℕ) where
   pub headingLine-or-not {χ} : {A : Type χ} → (HeadingLine s p → A) → ((HeadingLine s p → ⊥) → A) → A
   headingLine-or-not f g = cases (lineStarts s p && isHeading line) (λ e. f (test-line e)) (λ e. g (λ h. true≢false (sym (test-yes h) ∙ e)))
 
-  pub headingAt-yes : HeadingLine s p → headingAt s p ≡ Before (p + length line)
+  pub headingAt-true : (lineStarts s p && isHeading line) ≡ true → headingAt s p ≡ Before (p + length line)
   unfolding headingAt
-  headingAt-yes h = rw (test-yes h, headingAt)
+  headingAt-true h = rw (h, headingAt)
+
+  pub headingAt-false : (lineStarts s p && isHeading line) ≡ false → headingAt s p ≡ NoHeading
+  unfolding headingAt
+  headingAt-false h = rw (h, headingAt)
+
+  pub headingAt-yes : HeadingLine s p → headingAt s p ≡ Before (p + length line)
+  headingAt-yes h = headingAt-true (test-yes h)
 
   pub headingAt-no : (HeadingLine s p → ⊥) → headingAt s p ≡ NoHeading
-  unfolding headingAt
-  headingAt-no h = cases (lineStarts s p && isHeading line) (λ e. absurd (h (test-line e))) (λ e. rw (e, headingAt))
+  headingAt-no h = cases (lineStarts s p && isHeading line) (λ e. absurd (h (test-line e))) headingAt-false
+
+  pub headingAt-to : (q : ℕ) → headingAt s p ≡ Before q → q ≤ length s
+  headingAt-to q h =
+      headingLine-or-not
+      (λ l. let i = headingAt-yes l in let n : q ≡ p + length line = cc in rw n (headingLine-to s p l))
+      (λ n. let i = headingAt-no n in absurd (let z : _≡_ {A = ℕ} 0 1 = cc in omega arith))
 
 -- ---- its property drawer
+
+-- it has none, or one with n node properties
+pub propertyDrawer-cases {χ} : {A : Type χ} (pl : Place) (ls : List Line) → (propertyDrawer pl ls ≡ none → A)
+    → ((n : ℕ) → propertyDrawer pl ls ≡ some (found Kind.propertyDrawer (n + 2) 0) → A) → A
+unfolding propertyDrawer mapSome
+propertyDrawer-cases pl ls f g = cases (allowsProperties pl && isPropertiesLine (headLine ls))
+    (λ h. options (propertiesBefore (tailLines ls))
+    (λ i. f (rw (h, propertyDrawer) (rw (i, mapSome)))) (λ n i. g n (rw (h, propertyDrawer) (rw (i, mapSome)))))
+    (λ h. f (rw (h, propertyDrawer)))
+
+propertyDrawer-nil : (pl : Place) → propertyDrawer pl [] ≡ none
+unfolding propertyDrawer propertiesBefore tailLines mapSome
+propertyDrawer-nil pl =
+    cases (allowsProperties pl && isPropertiesLine (headLine [])) (λ h. rw (h, propertyDrawer)) (λ h. rw (h, propertyDrawer))
 
 module _ (pl : Place) (s : List ℕ) (p e : ℕ) where
   abbrev ls : List Line
   ls = linesIn s p e
 
-  drawerAt-some : (f : Found) → propertyDrawer pl ls ≡ some f → drawerAt pl s p e ≡ Lines (p + length (headLine ls)) (p + size (take (f .own - 1) ls))
+  pub drawerAt-some : (f : Found) → propertyDrawer pl ls ≡ some f → drawerAt pl s p e ≡ Lines (p + length (headLine ls)) (p + size (take (f .own - 1) ls))
   unfolding drawerAt
   drawerAt-some f h = rw (h, drawerAt)
 
-  drawerAt-none : propertyDrawer pl ls ≡ none → drawerAt pl s p e ≡ NoDrawer
+  pub drawerAt-none : propertyDrawer pl ls ≡ none → drawerAt pl s p e ≡ NoDrawer
   unfolding drawerAt
   drawerAt-none h = rw (h, drawerAt)
+
+  pub drawerAt-end : e ≤ p → drawerAt pl s p e ≡ NoDrawer
+  drawerAt-end h = drawerAt-none (rw (linesIn-nil s p e h) (propertyDrawer-nil pl))
+
+  drawerAt-order : p ≤ e → e ≤ length s → (a z : ℕ) → drawerAt pl s p e ≡ Lines a z → (a ≤ z) × (z ≤ e)
+  drawerAt-order h i a z j =
+      propertyDrawer-cases pl ls
+      (λ k. let d = drawerAt-none k in absurd (let z : _≡_ {A = ℕ} 0 1 = cc in omega arith))
+      (λ n k. let d = drawerAt-some (found Kind.propertyDrawer (n + 2) 0) k in
+      let from : a ≡ p + length (headLine ls) = cc in
+      let to : z ≡ p + size (take (n + 2 - 1) ls) = cc in
+      omega (arith, size-headLine ls, size-take-mono 1 (n + 2 - 1) ls (omega arith), within-linesIn s p e h i (n + 2 - 1)))
 
 module _ (s : List ℕ) (p : ℕ) where
   abbrev end : ℕ
   end = nextLine isHeading s p
 
-  after-heading : isPlanning (lineAfter s p) ≡ false → drawerAfter s p ≡ drawerAt AfterHeading s p end
+  pub after-heading : isPlanning (lineAfter s p) ≡ false → drawerAfter s p ≡ drawerAt AfterHeading s p end
   unfolding drawerAfter
   after-heading h = rw (h, drawerAfter)
 
-  after-planning : isPlanning (lineAfter s p) ≡ true → drawerAfter s p ≡ drawerAt AfterPlanning s (p + length (lineAfter s p)) end
+  pub after-planning : isPlanning (lineAfter s p) ≡ true → drawerAfter s p ≡ drawerAt AfterPlanning s (p + length (lineAfter s p)) end
   unfolding drawerAfter
   after-planning h = rw (h, drawerAfter)
 
@@ -143,6 +183,15 @@ module _ (s : List ℕ) (p : ℕ) where
       (λ h. options (propertyDrawer AfterHeading (linesIn s p end))
       (λ i. x (after-heading h ∙ drawerAt-none AfterHeading s p end i)) (λ f i. y f h i))
 
+  pub drawerAfter-order : p ≤ length s → (a z : ℕ) → drawerAfter s p ≡ Lines a z → (a ≤ z) × (z ≤ length s)
+  drawerAfter-order h a z i =
+      let from = nextLine-from s isHeading p in
+      let to = nextLine-to s isHeading p h in
+      let o : (a ≤ z) × (z ≤ end) = cases (isPlanning (lineAfter s p))
+      (λ j. drawerAt-order AfterPlanning s (p + length (lineAfter s p)) end (lineIn-to s p end from to) to a z (sym (after-planning j) ∙ i))
+      (λ j. drawerAt-order AfterHeading s p end from to a z (sym (after-heading j) ∙ i)) in
+      omega arith
+
 -- ---- the key's line
 
 module _ (k : List ℕ) (p : ℕ) where
@@ -158,6 +207,19 @@ module _ (k : List ℕ) (p : ℕ) where
     pub valueIn-skip : same (propertyName l) k ≡ false → valueIn k p (l ∷ ls) ≡ valueIn k (p + length l) ls
     unfolding valueIn
     valueIn-skip h = rw (h, valueIn)
+
+valueIn-order : (k : List ℕ) (p : ℕ) (ls : List Line) (a z : ℕ) → valueIn k p ls ≡ Part a z → (a ≤ z) × (z ≤ p + size ls)
+unfolding size valueStart
+valueIn-order k p [] a z h = let n = valueIn-nil k p in absurd (let z : _≡_ {A = ℕ} 0 1 = cc in omega arith)
+valueIn-order k p (l ∷ ls) a z h = cases (same (propertyName l) k)
+    (λ i. let n = valueIn-here k p l ls i in
+    let from : a ≡ p + valueStart (length (firstRun (body l))) l = cc in
+    let to : z ≡ p + bodyEnd l = cc in
+    omega (arith, bodyEnd-le l))
+    (λ i. omega (arith, valueIn-order k (p + length l) ls a z (sym (valueIn-skip k p l ls i) ∙ h)))
+
+pub valueIn-inside : (k s : List ℕ) (p e a z : ℕ) → p ≤ e → e ≤ length s → valueIn k p (linesIn s p e) ≡ Part a z → (a ≤ z) × (z ≤ length s)
+valueIn-inside k s p e a z h i j = omega (arith, valueIn-order k p (linesIn s p e) a z j, size-linesIn s p e h i)
 
 -- no blank line has the key
 same-nil : (k : List ℕ) → isBadKey k ≡ false → same [] k ≡ false

@@ -75,14 +75,6 @@ module _ (P : State → Type 0) (t : List ℕ) where
       (λ f. let l = leb-false 33 d f in
       rw (absorb-taken t k r d h l) (taken-each (k .count) (k .writing) r halt (put l) (count l))))
 
--- a record that did not stop is not deep
-pub absorb-shallow : (st : State) (r : Record) (d : ℕ) → absorb st (entry r d) .sink .stopped ≡ false → d ≤ 32
-absorb-shallow st r d = absorb-each (λ x. x .sink .stopped ≡ false → d ≤ 32) (st .tab) (st .sink) r d
-    (λ h g. absurd (true≢false (sym h ∙ g)))
-    (λ g. absurd (true≢false g))
-    (λ l w m g. omega arith)
-    (λ l w g. omega arith)
-
 -- stopped, or one more is counted
 pub absorb-counted : (st : State) (e : Entry) → (absorb st e .sink .stopped ≡ true) ⊎ (absorb st e .sink .count ≡ st .sink .count + 1)
 absorb-counted st e =

@@ -4,7 +4,7 @@
 use mathlib.Core.Path.{_≡_, refl, sym, ap, _∙_}
 use mathlib.Core.Logic.{_⊎_, inl, inr, ⊎-elim}
 use mathlib.Core.Bool.{true, false, true≢false}
-use mathlib.Core.List.{List, [], _∷_, _++_, map}
+use mathlib.Core.List.{List, [], _∷_, _++_}
 use Prim.Native.Nat.{ℕ, suc, _+_, _*_, _/_, _≤_, _<_}
 use native.Mathlib.Nat.{zero-add}
 use native.Mathlib.Omega.{arith}
@@ -22,7 +22,7 @@ use Rattle.reading.specs.Reading.{reading}
 use Rattle.reading.specs.Nesting.{greatest, nesting}
 use Rattle.reading.specs.Answers.{room, answerFor, answer, leaves}
 use Rattle.reading.specs.Walk.{Entry, State, state, sinkOf, absorbed, readingEntries}
-use Rattle.reading.specs.Promises.{OneReading, Settled}
+use Rattle.reading.specs.Promises.{Settled}
 use Rattle.reading.proofs.Laws.Absorb.{absorb-deep, absorb-put, absorb-count, absorbed-cons, absorbed-stuck}
 use Rattle.reading.proofs.Promises.{one-reading}
 use Rattle.reading.proofs.Laws.Entries.{recordsOf, reading-records}

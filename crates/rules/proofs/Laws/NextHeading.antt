@@ -20,7 +20,7 @@ use Rattle.text.proofs.Laws.Parts.{part-length}
 use Rattle.text.proofs.Laws.Runs.{run-none, run-length-le, run-part-all}
 use Rattle.text.proofs.Laws.LinesIn.{lineIn-one, lineIn-cons, lineIn-newline, lineIn-next, lineIn-end, nextLine-here, nextLine-skip}
 use Rattle.rules.specs.Headings.{stars, isHeading, isHeadingUpTo, startsAt}
-use Rattle.rules.proofs.Laws.Headings.{upTo-heading, nextLine-end}
+use Rattle.rules.proofs.Laws.Headings.{nextLine-end}
 
 unfoldable pub ahead : (Line → Bool) → List ℕ → ℕ → ℕ → ℕ
 ahead f s p i = elim (startsAt s p i) [ true ↦ nextLine f s i | false ↦ nextLine f s (i + length (lineIn s i (length s))) ]

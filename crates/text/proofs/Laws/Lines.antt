@@ -156,10 +156,6 @@ unfolding leading headLine
 leading-zero f [] h = refl
 leading-zero f (l ∷ ls) h = rw (h, leading)
 
-pub leading-suc : (f : Line → Bool) (l : Line) (ls : List Line) → f l ≡ true → leading f (l ∷ ls) ≡ suc (leading f ls)
-unfolding leading
-leading-suc f l ls h = rw (h, leading)
-
 -- past one that passes
 pub leading-one : (f : Line → Bool) (ls : List Line) → f (headLine ls) ≡ true
     → size (take (leading f ls) ls) ≡ length (headLine ls) + size (take (leading f (tailLines ls)) (tailLines ls))

@@ -80,9 +80,6 @@ unfolding trimEnd
 trimEnd-take [] = refl
 trimEnd-take (b ∷ x) = consUnlessEnd-take b x (trimEnd x) (trimEnd-take x)
 
-pub trimEnd-length-le : (x : List ℕ) → length (trimEnd x) ≤ length x
-trimEnd-length-le x = omega (arith, ap length (trimEnd-take x), length-take (length (trimEnd x)) x)
-
 consUnlessEnd-empty : (b : ℕ) (y : List ℕ) → (not (isNonBlank b) && isEmpty y) ≡ isEmpty (consUnlessEnd b y)
 unfolding consUnlessEnd isEmpty
 consUnlessEnd-empty b [] = cases (isNonBlank b) (λ e. rw (e, consUnlessEnd)) (λ e. rw (e, consUnlessEnd))

@@ -3,6 +3,7 @@
 use mathlib.Core.Path.{_≡_, sym, _∙_}
 use mathlib.Core.List.{List}
 use Prim.Native.Nat.{ℕ}
+use native.Mathlib.Omega.{arith}
 use borrow.Author.Needs.{needs}
 use Rattle.lookup.specs.declared.lookup.Answer.{Answer}
 use Rattle.lookup.specs.declared.stages.Heading.the-variants.{Before}
@@ -11,7 +12,7 @@ use Rattle.lookup.specs.Stages.{headingAt, drawerAfter}
 use Rattle.lookup.specs.Lookup.{lookup}
 use Rattle.lookup.specs.Promises.{Tried, Tied}
 use Rattle.lookup.proofs.Promises.{tied}
-use Rattle.lookup.proofs.Laws.Finding.{heading-to, drawerAfter-order}
+use Rattle.lookup.proofs.Laws.Stages.{headingAt-to, drawerAfter-order}
 use Rattle.lookup.proofs.Laws.Lookup.{lookup-long, lookup-bad, lookup-noHeading, lookup-noDrawer, lookup-noKey, lookup-found}
 use Rattle.lookup.proofs.lookup.lookup.Statement.{statement}
 use Rattle.lookup.proofs.lookup.lookup.Tie as tie
@@ -21,7 +22,7 @@ answers : (s : List ℕ) (p : ℕ) (k : List ℕ) (r : Answer) → lookup s p k 
 answers s p k r h = (sym h, rw h at (tied s p k))
 
 returns : tie.Need-returns
-returns c = answers _ _ _ _ (lookup-long _ _ _ (c .if1 .taken))
+returns c = answers _ _ _ _ (lookup-long _ _ _ (omega arith))
 
 returns-2 : tie.Need-returns-2
 returns-2 c =
@@ -43,7 +44,7 @@ heading : (c : tie.After-inner) → let a = c .before .before .before .before .b
 heading c = sym (c .before .before .find-heading .ensures) ∙ c .inner .given .1
 
 find-drawer-requires : tie.Need-find-drawer-requires
-find-drawer-requires c κs = heading-to _ _ _ (heading (c .before))
+find-drawer-requires c κs = headingAt-to _ _ _ (heading (c .before))
 
 returns-4 : tie.Need-returns-4
 returns-4 c =
@@ -62,8 +63,8 @@ find-value-requires : tie.Need-find-value-requires
 find-value-requires c κs =
     let at-from = c .before in
     let at-inner = at-from .before .before .before .before in
-    let o = drawerAfter-order _ _ (heading-to _ _ _ (heading at-inner)) _ _ (drawer at-from) in
-    (o .0, o .1, tried (at-inner .before .before .before) .key)
+    let o = drawerAfter-order _ _ (headingAt-to _ _ _ (heading at-inner)) _ _ (drawer at-from) in
+    (omega arith, omega arith, tried (at-inner .before .before .before) .key)
 
 returns-5 : tie.Need-returns-5
 returns-5 c =

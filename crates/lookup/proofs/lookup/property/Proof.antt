@@ -1,7 +1,6 @@
 -- `lookup::lookup::property` meets its contract: the part that a lookup finds lies in the text, and that of a refusal is empty.
 -- Assumes nothing.
 use mathlib.Core.Path.{_≡_, refl, sym, _∙_}
-use mathlib.Core.Logic.{inl, inr}
 use mathlib.Core.List.{List, [], _∷_}
 use Prim.Native.Nat.{ℕ, _≤_}
 use native.Mathlib.Omega.{arith}
@@ -17,9 +16,12 @@ use Rattle.lookup.proofs.Laws.Lookup.{lookup-inside}
 use Rattle.lookup.proofs.lookup.property.Statement.{statement}
 use Rattle.lookup.proofs.lookup.property.Tie as tie
 
--- a refusal, by its place among the answers
-refused : (r : Answer) (s : List ℕ) → OneOf (1 ∷ 2 ∷ 3 ∷ 4 ∷ 5 ∷ []) (tagOf the-type r) → [] ≡ partOf r s
-refused (Found a e) s h = absurd (miss (1 ∷ 2 ∷ 3 ∷ 4 ∷ 5 ∷ []) 0 tt h)
+-- the places of the refusals among the answers
+abbrev refusals : List ℕ
+refusals = 1 ∷ 2 ∷ 3 ∷ 4 ∷ 5 ∷ []
+
+refused : (r : Answer) (s : List ℕ) → OneOf refusals (tagOf the-type r) → [] ≡ partOf r s
+refused (Found a e) s h = absurd (miss refusals 0 tt h)
 refused TooLong s h = refl
 refused NoHeading s h = refl
 refused NoDrawer s h = refl
@@ -55,7 +57,7 @@ property-spec =
     (λ c. search needs)
     (λ c. search needs)
     returns
-    (λ c. inside (c .before) .0)
-    (λ c. inside (c .before) .0)
-    (λ c. inside (c .before) .1)
+    (λ c. omega (arith, inside (c .before)))
+    (λ c. omega (arith, inside (c .before)))
+    (λ c. omega (arith, inside (c .before)))
     returns-2)

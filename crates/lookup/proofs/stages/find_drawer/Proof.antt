@@ -21,11 +21,14 @@ returns c = let at-next = c .before in drawerAfter-end _ _ (at-next .before .bef
 is-planning-requires : tie.Need-is-planning-requires
 is-planning-requires c κs = lineOf _ _ _ _ (c .before .if1 .left) (order (c .before .before) .1) (c .line-at .ensures)
 
-find-drawer-at-requires : tie.Need-find-drawer-at-requires
-find-drawer-at-requires c κs =
-    let at-line = c .before .before in
-    let o = order (at-line .before .before) in
-    (lineSpan-next _ _ _ _ (at-line .line-at .ensures) (at-line .before .if1 .left) (o .1) .1, o .1)
+-- the section's ends, and where the line after the heading line ends
+within : (c : tie.After-line-at) → let at-next = c .before .before in
+    let a = at-next .before .before .args in
+    let to = at-next .next-heading .result in
+    (a .from ≤ to) × (c .line-at .result .end ≤ to) × (to ≤ length (a .text .now))
+within c =
+    let o = order (c .before .before) in
+    (o .0, lineSpan-next _ _ _ _ (c .line-at .ensures) (c .before .if1 .left) (o .1) .1, o .1)
 
 returns-2 : tie.Need-returns-2
 returns-2 c =
@@ -53,7 +56,7 @@ find-drawer-spec =
     returns
     (λ c κs. order (c .before))
     is-planning-requires
-    find-drawer-at-requires
+    (λ c κs. omega (arith, within (c .before .before)))
     returns-2
-    (λ c κs. order (c .before .before .before .before))
+    (λ c κs. omega (arith, within (c .before .before)))
     returns-3)

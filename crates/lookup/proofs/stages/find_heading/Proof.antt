@@ -13,14 +13,16 @@ returns : tie.Need-returns
 returns c = heading-end _ _ (c .if1 .taken)
 
 returns-2 : tie.Need-returns-2
-returns-2 c = heading-inside _ _ (c .before .before .if2 .taken) (c .if3 .taken)
+returns-2 c = heading-inside _ _ (omega arith) (c .if3 .taken)
 
 returns-3 : tie.Need-returns-3
 returns-3 c = heading-none _ _ _ (c .before .heading-stars .ensures) (c .if4 .taken)
 
 -- past the test of the byte before, a line starts there
 starts : (c : tie.Joined2) → let a = c .before .before .before .args in lineStarts (a .text .now) (a .at) ≡ true
-starts c = on (c .if2 .came) (λ w. lineStarts-newline _ _ (w .0 .taken) (w .2 .left)) (λ w. lineStarts-first _ _ (w .left))
+starts c =
+    let a = c .before .before .before .args in
+    on (c .if2 .came) (λ w. lineStarts-newline (a .text .now) (a .at) (omega arith) (w .2 .left)) (λ w. lineStarts-first (a .text .now) (a .at) (omega arith))
 
 returns-4 : tie.Need-returns-4
 returns-4 c =

@@ -4,7 +4,7 @@ use mathlib.Core.Path.{sym}
 use mathlib.Core.Logic.{⊎-elim}
 use native.Mathlib.Omega.{arith}
 use borrow.Author.Tests.{ltb-true, ltb-false}
-use Rattle.lookup.proofs.Laws.Finding.{isBadKey-empty, isBadKey-long, isBadKey-blank, isBadKey-last}
+use Rattle.lookup.proofs.Laws.Keys.{isBadKey-empty, isBadKey-long, isBadKey-blank, isBadKey-last}
 use Rattle.lookup.proofs.stages.is_bad_key.Statement.{statement}
 use Rattle.lookup.proofs.stages.is_bad_key.Tie as tie
 
@@ -12,7 +12,7 @@ returns : tie.Need-returns
 returns c = sym (⊎-elim (λ w. isBadKey-empty _ (w .taken)) (λ w. isBadKey-long _ (ltb-true 64 _ (w .1 .taken))) (c .if1 .came))
 
 returns-2 : tie.Need-returns-2
-returns-2 c = sym (isBadKey-blank _ _ (c .before .run-end .ensures) (c .if3 .taken))
+returns-2 c = sym (isBadKey-blank _ _ (c .before .run-end .ensures) (omega arith))
 
 returns-3 : tie.Need-returns-3
 returns-3 c =

@@ -1,10 +1,11 @@
-use mathlib.Core.Path.{_≡_, refl, sym, ap, _∙_}
+-- `reading::sink::emit` meets its contract: the record is taken as `absorb` says, or the sink stops.
+-- Assumes nothing.
+use mathlib.Core.Path.{sym, ap, _∙_}
 use mathlib.Core.Logic.{⊎-elim}
 use mathlib.Core.Bool.{true≢false}
 use native.Mathlib.Omega.{arith}
 use lib.ListN.{length, length-set}
 use borrow.Author.Needs.{needs}
-use Rattle.reading.specs.Walk.{state}
 use Rattle.reading.proofs.Laws.Absorb.{absorb-stop, absorb-deep, absorb-full, absorb-put, absorb-count}
 use Rattle.reading.proofs.sink.emit.Statement.{statement}
 use Rattle.reading.proofs.sink.emit.Tie as tie

@@ -1,6 +1,5 @@
 -- `reading::walk::ends_after` meets its contract: what no line from a line on is, no line after it is.
 -- Assumes nothing.
-use mathlib.Core.Path.{_≡_, sym}
 use borrow.Author.Needs.{needs}
 use Rattle.rules.proofs.Laws.LineOf.{lineOf-end}
 use Rattle.rules.proofs.Laws.NoEnds.{noEnd-line}

@@ -1,0 +1,47 @@
+//! A stack of 64 KB is enough for every text: the deepest nesting, more of it than is read, and texts of the greatest length.
+
+use comaltzex::{lookup, read, Refusal, DEPTH_LIMIT, RECORD_SIZE, TEXT_LIMIT};
+use std::thread;
+
+const STACK: usize = 64 * 1024;
+
+/// The answer of a reading call that has only a small stack.
+fn read_on_a_small_stack(text: Vec<u8>) -> Result<usize, Refusal> {
+    let mut table = vec![0; RECORD_SIZE * (TEXT_LIMIT + 3)];
+    let reading = move || read(&text, &mut table).map(|records| records.count());
+    thread::Builder::new().stack_size(STACK).spawn(reading).unwrap().join().unwrap()
+}
+
+/// Blocks in one another, each of another name, with a drawer in the innermost.
+fn nested(depth: usize) -> Vec<u8> {
+    let openers = (1..depth).map(|i| format!("#+begin_{i}\n"));
+    let closers = (1..depth).rev().map(|i| format!("#+end_{i}\n"));
+    openers.chain([":a:\n:end:\n".to_string()]).chain(closers).collect::<String>().into_bytes()
+}
+
+fn filled(line: &str) -> Vec<u8> {
+    line.bytes().cycle().take(TEXT_LIMIT).collect()
+}
+
+#[test]
+fn deep_texts() {
+    assert_eq!(read_on_a_small_stack(nested(DEPTH_LIMIT)), Ok(DEPTH_LIMIT + 2));
+    assert_eq!(read_on_a_small_stack(nested(DEPTH_LIMIT + 1)), Err(Refusal::TooDeep));
+    assert_eq!(read_on_a_small_stack(nested(2500)), Err(Refusal::TooDeep));
+}
+
+#[test]
+fn long_texts() {
+    assert_eq!(read_on_a_small_stack(filled("* ")), Ok(2));
+    // the last byte is a star alone: a section with a paragraph
+    assert_eq!(read_on_a_small_stack(filled("* \n")), Ok(21845 + 3));
+    assert_eq!(read_on_a_small_stack(filled("#+begin_x\n")), Ok(3));
+    assert_eq!(read_on_a_small_stack(filled(":a:\n")), Ok(3));
+    assert_eq!(read_on_a_small_stack(filled("|\n")), Ok(32768 + 3));
+}
+
+#[test]
+fn long_lookup() {
+    let looking = || lookup(&filled("* a\n:properties:\n:a:\n:end:\n"), 0, b"b").is_err();
+    assert!(thread::Builder::new().stack_size(STACK).spawn(looking).unwrap().join().unwrap());
+}
