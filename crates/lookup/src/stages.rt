@@ -82,7 +82,7 @@ fn find_drawer_at(text: &[u8], at: usize, to: usize) -> Drawer
         return Drawer::Missing;
     }
     let inner = opener.end;
-    let Closer::At(close, _) = find_properties_end(text, inner, to) else {
+    let Closer::At(close, _, _) = find_properties_end(text, inner, to) else {
         return Drawer::Missing;
     };
     Drawer::Lines(inner, close)

@@ -13,6 +13,7 @@ pub mod Turns
 pub mod Settled
 pub mod Parents
 pub mod LineRecords
+pub mod Counted
 pub mod NextPlaces
 pub mod Ranges
 pub mod SectionPlaces

@@ -6,7 +6,7 @@ use Prim.Native.Nat.{ℕ, zero, suc, _+_, _-_, _*_, _≤_, _<_}
 use lib.ListN.{length, getD}
 use lib.Seq.{sets}
 use lib.Dec.{T, leb, ltb, eqb}
-use Rattle.text.specs.Parts.{LineStart, firstLine, nextLine}
+use Rattle.text.specs.Parts.{LineStart, linesIn, firstLine, nextLine}
 use Rattle.rules.specs.Kind
 use Rattle.rules.specs.Headings.{isHeading, stars, headingStars}
 use Rattle.rules.specs.Places.{placeAt}
@@ -165,6 +165,7 @@ pub record ElementIn (s : List ℕ) (p b : ℕ) (e : Element) : Type 0 where
   pub to : e .to ≤ b
   pub detail : e .detail ≤ 65536
   pub lines : e .kind ≡ Kind.propertyDrawer → p < e .from
+  pub counted : (rows : Bool) → e .kind ≡ linesTo rows (e .to) .kind → e .lines ≡ length (linesIn s (firstLine s (e .from) (e .to)) (e .to))
   pub elements : T (countsDepth (e .kind)) → (p < e .from) × (e .to < b) × Range s (firstLine s (e .from) (e .to)) (e .to)
   pub place : T (countsDepth (e .kind)) → firstLine s (e .from) (e .to) < e .to → Elsewhere ≡ placeAt s (firstLine s (e .from) (e .to))
 

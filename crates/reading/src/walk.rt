@@ -2,7 +2,7 @@ ghost use mathlib.Core.Path.{_≡_};
 ghost use mathlib.Core.Bool.{false};
 ghost use Prim.Native.Nat.{_+_, _*_, _≤_, _<_};
 ghost use lib.ListN.{length};
-ghost use Rattle.text.specs.Parts.{nextLine, LineStart};
+ghost use Rattle.text.specs.Parts.{linesIn, nextLine, LineStart};
 ghost use Rattle.rules.specs.Headings.{isHeading};
 ghost use Rattle.rules.specs.Places.{placeAt};
 ghost use Rattle.rules.specs.Findings.{LineOf, NoEnd};
@@ -58,21 +58,30 @@ fn line_record(text: &[u8], line: LineSpan, to: usize, rows: bool, parent: usize
     }
 }
 
-// The lines of a property drawer, or the rows of a table.
+// The lines of a property drawer, or the rows of a table: so many lines, which are enough to count them.
 fn read_lines(
     text: &[u8],
     from: usize,
     to: usize,
     rows: bool,
+    lines: usize,
     depth: usize,
     parent: usize,
     table: &mut [u32],
     sink: Sink,
 ) -> Sink
     requires { ⌜ (from ≤ to) × (to ≤ length (now text)) × (to ≤ 65536) × (parent ≤ 200000) × (sink .count ≤ 2 * from + 3) ⌝ }
+    requires { ⌜ (lines ≡ length (linesIn (now text) from to)) × (depth ≤ 32) × (sink .stopped ≡ false) ⌝ }
     ensures { λ r. ⌜ state (now (table .exit)) r ≡ absorbed (state (now (table .entry)) sink) (entriesFrom (now (text .entry)) (linesTo rows to) parent depth from (sink .count)) ⌝ }
     ensures { λ r. ⌜ r .count + from ≤ sink .count + to ⌝ }
 {
+    if !sink.writing {
+        return Sink {
+            count: sink.count + lines,
+            writing: false,
+            stopped: false,
+        };
+    }
     let mut at = from;
     let mut kept = sink;
     while at < to {
@@ -195,11 +204,11 @@ fn read_element(
     }
     if kind == kind::TABLE {
         let first = first_line(text, e.from, e.to);
-        return read_lines(text, first, e.to, true, inner, index, table, kept);
+        return read_lines(text, first, e.to, true, e.lines, inner, index, table, kept);
     }
     if kind == kind::PROPERTY_DRAWER {
         let first = first_line(text, e.from, e.to);
-        return read_lines(text, first, e.to, false, inner, index, table, kept);
+        return read_lines(text, first, e.to, false, e.lines, inner, index, table, kept);
     }
     if inner <= depth {
         return kept;

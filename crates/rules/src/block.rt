@@ -67,7 +67,7 @@ pub fn try_block(text: &[u8], line: LineSpan, to: usize) -> Rule
         return Rule::Fails;
     }
     let inner = line.end;
-    let Closer::At(close, end) = find_closer(text, inner, to, b"#+end_", &text[name..name_end])
+    let Closer::At(close, end, n) = find_closer(text, inner, to, b"#+end_", &text[name..name_end])
     else {
         return Rule::Fails;
     };
@@ -79,6 +79,7 @@ pub fn try_block(text: &[u8], line: LineSpan, to: usize) -> Rule
             from: inner,
             to: close,
             detail: verbatim,
+            lines: n,
         });
     }
     Rule::Holds(Element {
@@ -87,5 +88,6 @@ pub fn try_block(text: &[u8], line: LineSpan, to: usize) -> Rule
         from: inner,
         to: close,
         detail: greater_detail(text, name, name_end),
+        lines: n,
     })
 }

@@ -13,9 +13,9 @@ use text::bytes::trim_end;
 use text::line::LineSpan;
 use text::line::line_end;
 
-// The closing line's start and end, where there is one.
+// The closing line's start and end, and how many lines stand before it, where there is one.
 pub enum Closer {
-    At(usize, usize),
+    At(usize, usize, usize),
     Nothing,
 }
 
@@ -38,6 +38,7 @@ pub fn find_closer(text: &[u8], from: usize, to: usize, first: &[u8], second: &[
 {
     let size = first.len() + second.len();
     let mut at = from;
+    let mut n = 0;
     'lines: loop {
         if to <= at {
             break 'lines Closer::Nothing;
@@ -48,7 +49,7 @@ pub fn find_closer(text: &[u8], from: usize, to: usize, first: &[u8], second: &[
             if size <= j {
                 let end = line_end(text, body + j, to);
                 if trim_end(text, body + j, end) == body + j {
-                    break 'lines Closer::At(at, end);
+                    break 'lines Closer::At(at, end, n);
                 }
                 break;
             }
@@ -61,6 +62,7 @@ pub fn find_closer(text: &[u8], from: usize, to: usize, first: &[u8], second: &[
             j += 1;
         }
         at = line_end(text, body + j, to);
+        n += 1;
     }
 }
 
@@ -87,7 +89,7 @@ pub fn may_end(text: &[u8], line: LineSpan, to: usize, before: bool) -> bool
     if text[from] != b':' {
         return true;
     }
-    let Closer::At(_, _) = find_end(text, line.end, to) else {
+    let Closer::At(_, _, _) = find_end(text, line.end, to) else {
         return false;
     };
     true

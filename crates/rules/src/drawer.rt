@@ -40,7 +40,7 @@ pub fn try_property_drawer(text: &[u8], line: LineSpan, to: usize, place: Place)
         return Rule::Fails;
     }
     let inner = line.end;
-    let Closer::At(close, end) = find_properties_end(text, inner, to) else {
+    let Closer::At(close, end, n) = find_properties_end(text, inner, to) else {
         return Rule::Fails;
     };
     Rule::Holds(Element {
@@ -49,6 +49,7 @@ pub fn try_property_drawer(text: &[u8], line: LineSpan, to: usize, place: Place)
         from: inner,
         to: close,
         detail: 0,
+        lines: n,
     })
 }
 
@@ -80,7 +81,7 @@ pub fn try_drawer(text: &[u8], line: LineSpan, to: usize, ends: bool) -> Rule
         return Rule::Fails;
     }
     let inner = line.end;
-    let Closer::At(close, end) = find_end(text, inner, to) else {
+    let Closer::At(close, end, n) = find_end(text, inner, to) else {
         return Rule::Fails;
     };
     Rule::Holds(Element {
@@ -89,5 +90,6 @@ pub fn try_drawer(text: &[u8], line: LineSpan, to: usize, ends: bool) -> Rule
         from: inner,
         to: close,
         detail: 0,
+        lines: n,
     })
 }

@@ -5,7 +5,7 @@ ghost use lib.ListN.{length, take};
 ghost use Rattle.text.specs.Lines.{size};
 ghost use Rattle.text.specs.Parts.{linesIn};
 ghost use Rattle.rules.specs.Elements.{planning, firstOf, rules1to9, paragraphLines, element};
-ghost use Rattle.rules.specs.Findings.{LineOf, NoEnd, ruleAt, spanned, colonRules, hashRules};
+ghost use Rattle.rules.specs.Findings.{LineOf, NoEnd, Plain, ruleAt, spanned, colonRules, hashRules};
 use crate::block::try_block;
 use crate::closer::may_end;
 use crate::drawer::try_drawer;
@@ -18,16 +18,20 @@ use crate::lines::try_fixed_width;
 use crate::lines::try_table;
 use crate::place::Place;
 use crate::planning::is_planning;
+use text::bytes::Class;
+use text::bytes::run_end;
 use text::line::LineSpan;
 use text::line::line_at;
+use text::line::line_end;
 
-// An element without its blank lines: its kind, its own end, its inner span and its detail.
+// An element without its blank lines: its kind, its own end, its inner span, its detail, and the lines of its inner span where they are counted.
 pub struct Element {
     pub kind: usize,
     pub end: usize,
     pub from: usize,
     pub to: usize,
     pub detail: usize,
+    pub lines: usize,
 }
 
 // What a rule finds at a line.
@@ -53,6 +57,7 @@ fn try_planning(text: &[u8], line: LineSpan, to: usize, place: Place) -> Rule
         from: line.from,
         to: line.to,
         detail: 0,
+        lines: 0,
     })
 }
 
@@ -105,7 +110,19 @@ pub fn find_rule(text: &[u8], line: LineSpan, to: usize, place: Place, ends: boo
     }
 }
 
+// Whether a line may be other than a further line of a paragraph, by its first byte after the indentation, which is not byte 10:
+// it may be blank, or start one of rules 3 to 9.
+fn may_stop(b: u8) -> bool
+    ensures { λ r. ⌜ (r ≡ false → (b ≡ 13 → ⊥) × Plain b) ⌝ }
+{
+    match b {
+        13 | b':' | b'#' | b'|' | b'-' => true,
+        _ => false,
+    }
+}
+
 // The end of the further lines of a paragraph: up to a blank line, the end, or a line where a rule holds.  [01 rule 10]
+// The first byte after the indentation spares most lines the search for a rule.
 fn paragraph_end(text: &[u8], from: usize, to: usize, ends: bool) -> usize
     requires { ⌜ (from ≤ to) × (to ≤ length (now text)) × (ends ≡ false → NoEnd (now text) from to) ⌝ }
     ensures { λ r. ⌜ r ≡ from + size (take (paragraphLines (linesIn (now (text .entry)) from to)) (linesIn (now (text .entry)) from to)) ⌝ }
@@ -113,15 +130,27 @@ fn paragraph_end(text: &[u8], from: usize, to: usize, ends: bool) -> usize
     let mut at = from;
     let mut still = ends;
     while at < to {
-        let line = line_at(text, at, to);
-        if line.to <= line.from {
+        let body = run_end(text, at, to, Class::Indent);
+        if to <= body {
             return at;
         }
-        if let Rule::Holds(_) = find_rule(text, line, to, Place::Elsewhere, still) {
+        let first = text[body];
+        if first == 10 {
             return at;
         }
-        still = may_end(text, line, to, still);
-        at = line.end;
+        if may_stop(first) {
+            let line = line_at(text, at, to);
+            if line.to <= line.from {
+                return at;
+            }
+            if let Rule::Holds(_) = find_rule(text, line, to, Place::Elsewhere, still) {
+                return at;
+            }
+            still = may_end(text, line, to, still);
+            at = line.end;
+        } else {
+            at = line_end(text, body, to);
+        }
     }
     at
 }
@@ -141,5 +170,6 @@ pub fn element_at(text: &[u8], line: LineSpan, to: usize, place: Place, ends: bo
         from: line.start,
         to: end,
         detail: 0,
+        lines: 0,
     }
 }

@@ -5,7 +5,7 @@ ghost use lib.ListN.{length};
 ghost use Rattle.text.specs.Parts.{lineIn, nextLine};
 ghost use Rattle.rules.specs.Headings.{headingStars, isHeadingUpTo, startsAt};
 use text::bytes::Class;
-use text::bytes::find_byte;
+use text::bytes::find_far;
 use text::bytes::run_end;
 
 // The stars of the heading line at a byte; 0 where the line there is none.
@@ -41,12 +41,12 @@ pub fn next_heading(text: &[u8], from: usize, most: usize) -> usize
     ensures { λ r. ⌜ r ≡ nextLine (isHeadingUpTo most) (now (text .entry)) from ⌝ }
 {
     let end = text.len();
-    let mut at = find_byte(text, from, end, b'*');
+    let mut at = find_far(text, from, end, b'*');
     while at < end {
         if is_heading_at(text, from, at, most) {
             return at;
         }
-        at = find_byte(text, at + 1, end, b'*');
+        at = find_far(text, at + 1, end, b'*');
     }
     at
 }

@@ -47,6 +47,7 @@ pub fn try_keyword(text: &[u8], line: LineSpan, to: usize) -> Rule
         from: run_end(text, marker, line.to, Class::Blank),
         to: line.to,
         detail: 0,
+        lines: 0,
     })
 }
 
@@ -67,5 +68,6 @@ pub fn try_horizontal_rule(text: &[u8], line: LineSpan, to: usize) -> Rule
         from: line.from,
         to: line.to,
         detail: 0,
+        lines: 0,
     })
 }

@@ -1,7 +1,10 @@
 ghost use mathlib.Core.Path.{_≡_};
-ghost use Prim.Native.Nat.{_+_, _≤_};
+ghost use mathlib.Core.Bool.{true};
+ghost use Prim.Native.Nat.{ℕ, _+_, _≤_};
 ghost use lib.ListN.{length, take};
-ghost use Rattle.text.specs.Lines.{size, leading, body};
+ghost use Rattle.text.specs.Bytes.{isNonBlank};
+ghost use Rattle.text.specs.Runs.{trimEnd};
+ghost use Rattle.text.specs.Lines.{size, indent, leading};
 ghost use Rattle.text.specs.Parts.{linesIn, lineIn};
 ghost use Rattle.rules.specs.LineTests.{isMarked};
 ghost use Rattle.rules.specs.Elements.{table, comment, fixedWidth};
@@ -10,9 +13,10 @@ use crate::element::Element;
 use crate::element::Rule;
 use crate::kind;
 use text::bytes::Class;
-use text::bytes::is_of;
+use text::bytes::is_nonblank;
+use text::bytes::run_end;
 use text::line::LineSpan;
-use text::line::line_at;
+use text::line::line_end;
 use text::word::begins_with;
 
 // A class of lines that stand together.
@@ -23,52 +27,59 @@ pub enum LineClass {
     FixedWidth,
 }
 
-// Whether the body is the byte c, or starts with it and a blank byte.
-fn is_marked(text: &[u8], line: LineSpan, to: usize, c: u8) -> bool
-    requires { ⌜ LineOf (now text) line to ⌝ }
-    ensures { λ r. ⌜ r ≡ isMarked c (body (lineIn (now (text .entry)) (line .start) to)) ⌝ }
+// Whether c stands at a byte, and after it a blank byte, byte 10 or the end.
+fn is_marked(text: &[u8], at: usize, to: usize, c: u8) -> bool
+    requires { ⌜ (to ≤ length (now text)) × (isNonBlank c ≡ true) ⌝ }
+    ensures { λ r. ⌜ r ≡ isMarked c (trimEnd (lineIn (now (text .entry)) at to)) ⌝ }
 {
-    let from = line.from;
-    let end = line.to;
-    if end <= from {
+    if to <= at {
         return false;
     }
-    if text[from] != c {
+    if text[at] != c {
         return false;
     }
-    if end <= from + 1 {
+    if to <= at + 1 {
         return true;
     }
-    is_of(text[from + 1], Class::Blank)
+    !is_nonblank(text[at + 1])
 }
 
-// Whether a line is of a class.
-pub fn is_line(text: &[u8], line: LineSpan, to: usize, class: LineClass) -> bool
-    requires { ⌜ LineOf (now text) line to ⌝ }
-    ensures { λ r. ⌜ r ≡ lineTest class (lineIn (now (text .entry)) (line .start) to) ⌝ }
+// Whether the line whose body starts at a byte is of a class: its first bytes tell, wherever it ends.
+fn starts_line(text: &[u8], at: usize, to: usize, class: LineClass) -> bool
+    requires { ⌜ (at ≤ to) × (to ≤ length (now text)) ⌝ }
+    ensures { λ r. ⌜ ((p : ℕ) → at ≡ p + indent (lineIn (now (text .entry)) p to) → r ≡ lineTest class (lineIn (now (text .entry)) p to)) ⌝ }
 {
     match class {
-        LineClass::Row => begins_with(text, line.from, line.to, b"|"),
-        LineClass::Formula => begins_with(text, line.from, line.to, b"#+tblfm:"),
-        LineClass::Comment => is_marked(text, line, to, b'#'),
-        LineClass::FixedWidth => is_marked(text, line, to, b':'),
+        LineClass::Row => at < to && text[at] == b'|',
+        LineClass::Formula => begins_with(text, at, to, b"#+tblfm:"),
+        LineClass::Comment => is_marked(text, at, to, b'#'),
+        LineClass::FixedWidth => is_marked(text, at, to, b':'),
     }
 }
 
-// The end of the run of lines of a class.
-pub fn lines_end(text: &[u8], from: usize, to: usize, class: LineClass) -> usize
+// A run of lines: where it ends, and how many they are.
+pub struct LineRun {
+    pub end: usize,
+    pub lines: usize,
+}
+
+// The run of lines of a class.
+pub fn lines_end(text: &[u8], from: usize, to: usize, class: LineClass) -> LineRun
     requires { ⌜ (from ≤ to) × (to ≤ length (now text)) ⌝ }
-    ensures { λ r. ⌜ r ≡ from + size (take (leading (lineTest class) (linesIn (now (text .entry)) from to)) (linesIn (now (text .entry)) from to)) ⌝ }
+    ensures { λ r. ⌜ r .end ≡ from + size (take (leading (lineTest class) (linesIn (now (text .entry)) from to)) (linesIn (now (text .entry)) from to)) ⌝ }
+    ensures { λ r. ⌜ r .lines ≡ leading (lineTest class) (linesIn (now (text .entry)) from to) ⌝ }
 {
     let mut at = from;
+    let mut n = 0;
     while at < to {
-        let line = line_at(text, at, to);
-        if !is_line(text, line, to, class) {
-            return at;
+        let body = run_end(text, at, to, Class::Indent);
+        if !starts_line(text, body, to, class) {
+            return LineRun { end: at, lines: n };
         }
-        at = line.end;
+        at = line_end(text, body, to);
+        n += 1;
     }
-    at
+    LineRun { end: at, lines: n }
 }
 
 // A table: row lines, and the formula lines right after them.  [01 rule 5]
@@ -76,16 +87,17 @@ pub fn try_table(text: &[u8], line: LineSpan, to: usize) -> Rule
     requires { ⌜ LineOf (now text) line to ⌝ }
     ensures { λ r. ⌜ r ≡ ruleAt (line .start) (linesIn (now (text .entry)) (line .start) to) (table (linesIn (now (text .entry)) (line .start) to)) ⌝ }
 {
-    if !is_line(text, line, to, LineClass::Row) {
+    if !starts_line(text, line.from, to, LineClass::Row) {
         return Rule::Fails;
     }
     let rows = lines_end(text, line.end, to, LineClass::Row);
     Rule::Holds(Element {
         kind: kind::TABLE,
-        end: lines_end(text, rows, to, LineClass::Formula),
+        end: lines_end(text, rows.end, to, LineClass::Formula).end,
         from: line.start,
-        to: rows,
+        to: rows.end,
         detail: 0,
+        lines: rows.lines + 1,
     })
 }
 
@@ -94,16 +106,17 @@ pub fn try_comment(text: &[u8], line: LineSpan, to: usize) -> Rule
     requires { ⌜ LineOf (now text) line to ⌝ }
     ensures { λ r. ⌜ r ≡ ruleAt (line .start) (linesIn (now (text .entry)) (line .start) to) (comment (linesIn (now (text .entry)) (line .start) to)) ⌝ }
 {
-    if !is_line(text, line, to, LineClass::Comment) {
+    if !starts_line(text, line.from, to, LineClass::Comment) {
         return Rule::Fails;
     }
-    let end = lines_end(text, line.end, to, LineClass::Comment);
+    let end = lines_end(text, line.end, to, LineClass::Comment).end;
     Rule::Holds(Element {
         kind: kind::COMMENT,
         end: end,
         from: line.start,
         to: end,
         detail: 0,
+        lines: 0,
     })
 }
 
@@ -112,15 +125,16 @@ pub fn try_fixed_width(text: &[u8], line: LineSpan, to: usize) -> Rule
     requires { ⌜ LineOf (now text) line to ⌝ }
     ensures { λ r. ⌜ r ≡ ruleAt (line .start) (linesIn (now (text .entry)) (line .start) to) (fixedWidth (linesIn (now (text .entry)) (line .start) to)) ⌝ }
 {
-    if !is_line(text, line, to, LineClass::FixedWidth) {
+    if !starts_line(text, line.from, to, LineClass::FixedWidth) {
         return Rule::Fails;
     }
-    let end = lines_end(text, line.end, to, LineClass::FixedWidth);
+    let end = lines_end(text, line.end, to, LineClass::FixedWidth).end;
     Rule::Holds(Element {
         kind: kind::FIXED_WIDTH,
         end: end,
         from: line.start,
         to: end,
         detail: 0,
+        lines: 0,
     })
 }

@@ -25,10 +25,13 @@ pub fn lower(b: u8) -> u8
     if b'A' <= b && b <= b'Z' { b + 32 } else { b }
 }
 
-// Whether a byte is neither blank nor byte 10.
+// Whether a byte is neither blank nor byte 10. Most bytes are above all of those, so that is asked first.
 pub fn is_nonblank(b: u8) -> bool
     ensures { λ r. ⌜ r ≡ isNonBlank b ⌝ }
 {
+    if 32 < b {
+        return true;
+    }
     match b {
         9 | 10 | 13 | 32 => false,
         _ => true,
@@ -79,14 +82,14 @@ pub fn trim_end(text: &[u8], from: usize, to: usize) -> usize
     i
 }
 
-// Whether one of the 16 bytes from a byte on is b. With no way out early the loop is a handful of vector instructions.
+// Whether one of the 64 bytes from a byte on is b. With no way out early the loop is a handful of vector instructions.
 fn has_byte(text: &[u8], at: usize, b: u8) -> bool
-    requires { ⌜ at + 16 ≤ length (now text) ⌝ }
-    ensures { λ r. ⌜ (r ≡ false → (k : ℕ) → k < 16 → getD (now (text .entry)) (at + k) 0 ≡ b → ⊥) ⌝ }
+    requires { ⌜ at + 64 ≤ length (now text) ⌝ }
+    ensures { λ r. ⌜ (r ≡ false → (k : ℕ) → k < 64 → getD (now (text .entry)) (at + k) 0 ≡ b → ⊥) ⌝ }
 {
     let mut found = false;
     let mut j = 0;
-    while j < 16 {
+    while j < 64 {
         if text[at + j] == b {
             found = true;
         }
@@ -95,12 +98,53 @@ fn has_byte(text: &[u8], at: usize, b: u8) -> bool
     found
 }
 
+// The place of the first b among the 48 bytes from a byte on; 48 or more where there is none. A byte that is not b counts as 255 less its place,
+// above every place: so the loop has no way out early, and is a handful of vector instructions.
+fn first_in(text: &[u8], at: usize, b: u8) -> usize
+    requires { ⌜ at + 48 ≤ length (now text) ⌝ }
+    ensures { λ r. ⌜ (r < 48 → getD (now (text .entry)) (at + r) 0 ≡ b) × ((k : ℕ) → k < 48 → k < r → getD (now (text .entry)) (at + k) 0 ≡ b → ⊥) ⌝ }
+{
+    let mut first: u8 = 255;
+    let mut j: u8 = 0;
+    while j < 48 {
+        let here = if text[at + (j as usize)] == b {
+            j
+        } else {
+            255 - j
+        };
+        if here < first {
+            first = here;
+        }
+        j += 1;
+    }
+    first as usize
+}
+
 // The first byte b from a byte on, or the end.
 pub fn find_byte(text: &[u8], from: usize, to: usize, b: u8) -> usize
     requires { ⌜ (from ≤ to) × (to ≤ length (now text)) ⌝ }
     ensures { λ r. ⌜ r ≡ from + length (run (isNot b) (part (now (text .entry)) from to)) ⌝ }
 {
-    let mut i = skip_blocks(text, from, to, b);
+    let mut i = from;
+    while i < to {
+        if text.len() - i < 48 {
+            return find_by_bytes(text, i, to, b);
+        }
+        let k = first_in(text, i, b);
+        if k < 48 {
+            return if i + k < to { i + k } else { to };
+        }
+        i += 48;
+    }
+    to
+}
+
+// The same, byte by byte: for a text's last bytes, which fill no block.
+fn find_by_bytes(text: &[u8], from: usize, to: usize, b: u8) -> usize
+    requires { ⌜ (from ≤ to) × (to ≤ length (now text)) ⌝ }
+    ensures { λ r. ⌜ r ≡ from + length (run (isNot b) (part (now (text .entry)) from to)) ⌝ }
+{
+    let mut i = from;
     while i < to {
         if text[i] == b {
             return i;
@@ -110,17 +154,26 @@ pub fn find_byte(text: &[u8], from: usize, to: usize, b: u8) -> usize
     i
 }
 
-// Past the blocks of 16 bytes from a byte on in which b is not.
+// The same, for a byte that is likely far off.
+pub fn find_far(text: &[u8], from: usize, to: usize, b: u8) -> usize
+    requires { ⌜ (from ≤ to) × (to ≤ length (now text)) ⌝ }
+    ensures { λ r. ⌜ r ≡ from + length (run (isNot b) (part (now (text .entry)) from to)) ⌝ }
+{
+    let i = skip_blocks(text, from, to, b);
+    find_byte(text, i, to, b)
+}
+
+// Past the blocks of 64 bytes from a byte on in which b is not.
 fn skip_blocks(text: &[u8], from: usize, to: usize, b: u8) -> usize
     requires { ⌜ (from ≤ to) × (to ≤ length (now text)) ⌝ }
     ensures { λ r. ⌜ (from ≤ r) × (r ≤ to) × (r + length (run (isNot b) (part (now (text .entry)) r to)) ≡ from + length (run (isNot b) (part (now (text .entry)) from to))) ⌝ }
 {
     let mut i = from;
-    while 16 <= to - i {
+    while 64 <= to - i {
         if has_byte(text, i, b) {
             return i;
         }
-        i += 16;
+        i += 64;
     }
     i
 }

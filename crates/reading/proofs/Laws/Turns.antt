@@ -83,12 +83,12 @@ elements-turn s e q d p st st′ h t a =
 -- ---- lines
 
 -- a row or node property counts no depth and holds nothing
-line-depth : (s : List ℕ) (rows : Bool) (e q d p : ℕ) → depthIn d (childRecord s (linesTo rows e) q p .kind) ≡ d
+pub line-depth : (s : List ℕ) (rows : Bool) (e q d p : ℕ) → depthIn d (childRecord s (linesTo rows e) q p .kind) ≡ d
 unfolding childRecord lineRecord depthIn countsDepth
 line-depth s true e q d p = refl
 line-depth s false e q d p = refl
 
-line-leaf : (s : List ℕ) (rows : Bool) (e q p : ℕ) → isHolder (childRecord s (linesTo rows e) q p .kind) ≡ false
+pub line-leaf : (s : List ℕ) (rows : Bool) (e q p : ℕ) → isHolder (childRecord s (linesTo rows e) q p .kind) ≡ false
 unfolding childRecord lineRecord isHolder holdsSections holdsElements
 line-leaf s true e q p = refl
 line-leaf s false e q p = refl

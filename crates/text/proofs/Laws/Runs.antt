@@ -3,14 +3,14 @@
 use mathlib.Core.Path.{_≡_, refl, sym, ap, _∙_}
 use mathlib.Core.Bool.{Bool, true, false, not, _&&_, and-false}
 use mathlib.Core.List.{List, [], _∷_, _++_}
-use Prim.Native.Nat.{ℕ, zero, suc, _+_, _-_, _≤_, _<_}
+use Prim.Native.Nat.{ℕ, zero, suc, _+_, _-_, _≤_, _<_, min}
 use native.Mathlib.Omega.{arith}
 use native.Mathlib.Nat.{add-zero}
 use native.Mathlib.Numerals.{add-one}
-use lib.Dec.{eqb, eqb·zero-suc, eqb·suc-zero, eqb·suc-suc}
+use lib.Dec.{ltb, eqb, eqb·zero-suc, eqb·suc-zero, eqb·suc-suc}
 use lib.ListN.{length, getD, take, drop, length-take, drop-of-length-le}
 use lib.Seq.{drop-cons}
-use borrow.Author.Tests.{eqb-true, eq-eqb, ne-eqb}
+use borrow.Author.Tests.{ltb-true, ltb-false, eqb-true, eq-eqb, ne-eqb}
 use borrow.Table.Steps.{cases}
 use Rattle.text.specs.Bytes.{isNonBlank, lower}
 use Rattle.text.specs.Runs.{all, isEmpty, run, afterRun, consUnlessEnd, trimEnd, same, begins}
@@ -150,15 +150,17 @@ module _ (s : List ℕ) (p e : ℕ) where
     run-part =
         run-take f (part s p e) ∙ part-take s (length (run f (part s p e))) p e (omega (arith, run-part-to)) ∙ ap (part s p) (sym i)
 
--- n bytes that pass, then the run from there on
-pub run-part-skip : (f : ℕ → Bool) (s : List ℕ) (n p e : ℕ) → p + n ≤ e → e ≤ length s → ((k : ℕ) → k < n → f (getD s (p + k) 0) ≡ true)
-    → length (run f (part s p e)) ≡ n + length (run f (part s (p + n) e))
+-- past n bytes that pass, or to the end where they are fewer, the run ends where it does
+pub run-part-skip : (f : ℕ → Bool) (s : List ℕ) (n p e : ℕ) → p ≤ e → e ≤ length s → ((k : ℕ) → k < n → f (getD s (p + k) 0) ≡ true)
+    → p + length (run f (part s p e)) ≡ min (p + n) e + length (run f (part s (p + n) e))
 run-part-skip f s zero p e a b h = rw (add-zero p) (omega arith)
-run-part-skip f s (suc n) p e a b h =
-    let first = run-part-cons s p e (omega arith) b f (rw (add-zero p) at (h 0 (omega arith))) in
+run-part-skip f s (suc n) p e a b h = cases (ltb p e)
+    (λ l. let i = ltb-true p e l in
+    let first = run-part-cons s p e i b f (rw (add-zero p) at (h 0 (omega arith))) in
     let rest = run-part-skip f s n (p + 1) e (omega arith) b (λ k l. let q : p + suc k ≡ p + 1 + k = omega arith in rw q at (h (suc k) (omega arith))) in
     let q : p + suc n ≡ p + 1 + n = omega arith in
-    rw q (omega (arith, first, rest))
+    rw q (omega (arith, first, rest)))
+    (λ l. let i = ltb-false p e l in omega (arith, run-part-nil s p e f i, run-part-nil s (p + suc n) e f (omega arith)))
 
 -- each byte of a run passes
 pub run-part-all : (f : ℕ → Bool) (s : List ℕ) (k p e : ℕ) → p + k < e → e ≤ length s → k < length (run f (part s p e)) → f (getD s (p + k) 0) ≡ true

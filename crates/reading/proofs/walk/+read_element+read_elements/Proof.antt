@@ -105,6 +105,30 @@ element-returns t c =
     let inner = at-emit .before .before .depth-in .ensures in
     (withHeld-stopped _ _ _ _ _ (rw inner at (at-emit .emit .ensures .0)) (c .if1 .taken), omega arith)
 
+element-lines-requires : (t : ℕ) → read-element-lts.Need-read-lines-requires (element-calls t) (read-element-at t) read-element.Post
+element-lines-requires t c κs =
+    let at-if = c .before .before in
+    let at-open = at-if .before in
+    let at-emit = at-open .before .before .before in
+    let start = at-emit .before .before .before .before .before in
+    let i = start .pre .1 .0 in
+    let first = c .before .first-line .ensures in
+    let from = firstLine-from (start .args .text .now) (start .args .e .from) (start .args .e .to) (i .order) (omega arith) in
+    let to = firstLine-to (start .args .text .now) (start .args .e .from) (start .args .e .to) (i .order) (omega arith) in
+    (omega arith, (rw first (i .counted true (at-if .if2 .taken)), at-emit .emit .ensures .1 .1 (at-open .if1 .left), at-open .if1 .left))
+
+element-lines-requires-2 : (t : ℕ) → read-element-lts.Need-read-lines-requires-2 (element-calls t) (read-element-at t) read-element.Post
+element-lines-requires-2 t c κs =
+    let at-if = c .before .before in
+    let at-open = at-if .before .before in
+    let at-emit = at-open .before .before .before in
+    let start = at-emit .before .before .before .before .before in
+    let i = start .pre .1 .0 in
+    let first = c .before .first-line2 .ensures in
+    let from = firstLine-from (start .args .text .now) (start .args .e .from) (start .args .e .to) (i .order) (omega arith) in
+    let to = firstLine-to (start .args .text .now) (start .args .e .from) (start .args .e .to) (i .order) (omega arith) in
+    (omega arith, (rw first (i .counted false (at-if .if3 .taken)), at-emit .emit .ensures .1 .1 (at-open .if1 .left), at-open .if1 .left))
+
 element-returns-2 : (t : ℕ) → read-element-lts.Need-returns-2 (element-calls t) (read-element-at t) read-element.Post
 element-returns-2 t c =
     let at-lines = c .before .before in
@@ -276,22 +300,12 @@ pub +read-element+read-elements-spec : {M : Type 1} → statement M
     (λ c. c .before .before .before .emit .kept .0)
     (element-returns t)
     (λ c κs. omega arith)
-    (λ c κs. let start = c .before .before .before .before .before .before .before .before .before .before .before in
-    let i = start .pre .1 .0 in
-    let first = c .before .first-line .ensures in
-    let from = firstLine-from (start .args .text .now) (start .args .e .from) (start .args .e .to) (i .order) (omega arith) in
-    let to = firstLine-to (start .args .text .now) (start .args .e .from) (start .args .e .to) (i .order) (omega arith) in
-    omega arith)
-    (λ c. c .before .before .read-lines .kept .1 .1 .1 .1 .1 .1 .0 ∙ c .before .before .before .before .before .before .before .before .before .emit .kept .0)
+    (element-lines-requires t)
+    (λ c. c .before .before .read-lines .kept .1 .1 .1 .1 .1 .1 .1 .0 ∙ c .before .before .before .before .before .before .before .before .before .emit .kept .0)
     (element-returns-2 t)
     (λ c κs. omega arith)
-    (λ c κs. let start = c .before .before .before .before .before .before .before .before .before .before .before .before in
-    let i = start .pre .1 .0 in
-    let first = c .before .first-line2 .ensures in
-    let from = firstLine-from (start .args .text .now) (start .args .e .from) (start .args .e .to) (i .order) (omega arith) in
-    let to = firstLine-to (start .args .text .now) (start .args .e .from) (start .args .e .to) (i .order) (omega arith) in
-    omega arith)
-    (λ c. c .before .before .read-lines2 .kept .1 .1 .1 .1 .1 .1 .0 ∙ c .before .before .before .before .before .before .before .before .before .before .emit .kept .0)
+    (element-lines-requires-2 t)
+    (λ c. c .before .before .read-lines2 .kept .1 .1 .1 .1 .1 .1 .1 .0 ∙ c .before .before .before .before .before .before .before .before .before .before .emit .kept .0)
     (element-returns-3 t)
     (λ c. c .before .before .before .before .before .before .emit .kept .0)
     (element-returns-4 t)

@@ -6,27 +6,45 @@ use mathlib.Core.Path.{_≡_, refl, sym, _∙_}
 use Prim.Native.Nat.{_+_, _-_, _≤_, _<_}
 use native.Mathlib.Omega.{arith}
 use lib.ListN.{length}
+use borrow.Author.Tests.{not-true}
+use Rattle.text.proofs.Laws.LinesIn.{linesIn-length}
 use Rattle.rules.specs.Findings.{LineOf}
 use Rattle.rules.proofs.Laws.LineOf.{lineOf, lineSpan-next}
 use Rattle.reading.specs.Walk.{state, absorbed, entriesFrom, linesTo}
+use Rattle.reading.proofs.Laws.Counted.{lines-counted}
 use Rattle.reading.proofs.Laws.LineRecords.{line-small, line-turn, lines-none}
 use Rattle.reading.proofs.walk.read_lines.Statement.{statement}
 use Rattle.reading.proofs.walk.read_lines.Tie as tie
 
 abbrev Inv-loop : tie.InvT-loop
-Inv-loop text from to rows depth parent table₀ at₀ kept₀ table at kept =
+Inv-loop text from to rows lines depth parent table₀ at₀ kept₀ table at kept =
     (at ≤ to) × (kept .count + from ≤ kept₀ .count + at) × (length table ≡ length table₀)
     × (absorbed (state table kept) (entriesFrom text (linesTo rows to) parent depth at (kept .count))
     ≡ absorbed (state table₀ kept₀) (entriesFrom text (linesTo rows to) parent depth from (kept₀ .count)))
 
 abbrev μ-loop : tie.MeasureT-loop
-μ-loop text from to rows depth parent table₀ at₀ kept₀ table at kept = to - at
+μ-loop text from to rows lines depth parent table₀ at₀ kept₀ table at kept = to - at
+
+-- each line is a byte at least
+lines-le : (c : tie.Then1 Inv-loop μ-loop) → let args = c .before .before .before .before .args in args .lines + args .from ≤ args .to
+lines-le c =
+    let start = c .before .before .before .before in
+    omega (arith, linesIn-length (start .args .text .now) (start .args .from) (start .args .to) (omega arith) (omega arith))
+
+returns : tie.Need-returns Inv-loop μ-loop
+returns c =
+    let at-if = c .before in
+    let start = at-if .before .before .before .before in (
+      lines-counted (start .args .text .now) (start .args .rows) _ (start .args .parent) (start .args .depth) _ _ _ _ (not-true _ (at-if .if1 .taken))
+          (start .pre .1 .2) (start .pre .1 .0) (omega arith) (start .pre .1 .1),
+      omega (arith, lines-le at-if),
+    )
 
 module _ (c : tie.After-line-at Inv-loop μ-loop) where
-  here : LineOf (c .before .before .before .before .before .args .text .now) (c .line-at .result) (c .before .before .before .before .before .args .to)
+  here : LineOf (c .before .before .before .before .before .before .before .args .text .now) (c .line-at .result) (c .before .before .before .before .before .before .before .args .to)
   here = lineOf _ _ _ _ (c .before .loop-test .taken) (omega arith) (c .line-at .ensures)
 
-  next : (c .before .before .loop .at < c .line-at .result .end) × (c .line-at .result .end ≤ c .before .before .before .before .before .args .to)
+  next : (c .before .before .loop .at < c .line-at .result .end) × (c .line-at .result .end ≤ c .before .before .before .before .before .before .before .args .to)
   next = lineSpan-next _ _ _ _ (c .line-at .ensures) (c .before .loop-test .taken) (omega arith)
 
 line-record-requires : tie.Need-line-record-requires Inv-loop μ-loop
@@ -34,7 +52,7 @@ line-record-requires c κs = here (c .before)
 
 emit-requires : tie.Need-emit-requires Inv-loop μ-loop
 emit-requires c κs =
-    let args = c .before .before .before .before .before .before .before .args in
+    let args = c .before .before .before .before .before .before .before .before .before .args in
     (rw (c .line-record .ensures) (line-small _ _ _ (args .parent) (here (c .before .before)) (args .rows) (omega arith) (omega arith)), omega arith)
 
 loop-less : tie.Need-loop-less Inv-loop μ-loop
@@ -47,20 +65,21 @@ loop-again c =
     let at-line = at-record .before .before in
     let at-test = at-line .before in
     let inv = at-test .before .loop .inv in
-    let args = at-test .before .before .before .before .args in
+    let start = at-test .before .before .before .before .before .before in
+    let args = start .args in
     let n = next at-line in (
       n .1,
       omega arith,
       at-emit .emit .kept .0 ∙ inv .2,
-      line-turn _ _ _ _ (args .parent) _ (args .rows) _ _ _ (at-test .loop-test .taken) (omega arith) (at-line .line-at .ensures)
+      line-turn _ _ _ _ (args .parent) _ (args .rows) _ _ _ (at-test .loop-test .taken) (start .pre .0 .1) (at-line .line-at .ensures)
           (at-record .line-record .ensures) (at-emit .emit .ensures .0)
           ∙ inv .3,
     )
 
-returns : tie.Need-returns Inv-loop μ-loop
-returns c =
+returns-2 : tie.Need-returns-2 Inv-loop μ-loop
+returns-2 c =
     let loop = c .before .loop in
-    let args = c .before .before .before .before .args in
+    let args = c .before .before .before .before .before .before .args in
     (sym (lines-none (args .text .now) (args .rows) _ (args .parent) (args .depth) _ (loop .kept .count) _ (c .loop-test .left)) ∙ loop .inv .3, omega arith)
 
 pub read-lines-spec : {M : Type 1} → statement M
@@ -69,6 +88,8 @@ read-lines-spec =
     (tie.spec
     Inv-loop
     μ-loop
+    (λ c. omega (arith, lines-le (c .before)))
+    returns
     (λ c. (omega arith, omega arith, refl, refl))
     (λ c κs. omega arith)
     line-record-requires
@@ -76,4 +97,4 @@ read-lines-spec =
     loop-less
     loop-again
     (λ c. c .before .loop .inv .2)
-    returns)
+    returns-2)

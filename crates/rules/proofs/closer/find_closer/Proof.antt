@@ -1,8 +1,8 @@
 -- `rules::closer::find_closer` meets its contract.
--- Over lines the invariant is that the first closer from `at` on is the one asked for, and the measure the bytes from `at` on.
+-- Over lines the invariant is that the first closer from `at` on, n lines further, is the one asked for, and the measure the bytes from `at` on.
 -- Within a line it is `Matched`: j bytes of the closer stand at the body's start, and the measure is the bytes after them.
 -- Assumes nothing.
-use mathlib.Core.Path.{_≡_, refl, sym, _∙_}
+use mathlib.Core.Path.{_≡_, sym, ap, _∙_}
 use mathlib.Core.Bool.{false}
 use mathlib.Core.List.{_++_}
 use mathlib.Core.Logic.{⊎-elim}
@@ -15,22 +15,24 @@ use Rattle.text.specs.Runs.{same}
 use Rattle.text.specs.Lines.{body}
 use Rattle.text.specs.Parts.{lineIn}
 use Rattle.text.proofs.Laws.LinesIn.{lineIn-some, lineIn-to}
+use Rattle.rules.proofs.Laws.Findings.{further, further-nothing, further-zero, further-one, further-here}
 use Rattle.rules.proofs.Laws.Closers.{closerIn, closer-none, closer-here, closer-pass}
 use Rattle.rules.proofs.Laws.Closers.{Matched, matched-start, matched-yes, matched-no, matched-short, matched-differ, matched-step}
 use Rattle.rules.proofs.closer.find_closer.Statement.{statement}
 use Rattle.rules.proofs.closer.find_closer.Tie as tie
 
 abbrev Inv-loop : tie.InvT-loop
-Inv-loop text from to first second size at body j₀ j = Matched (first ++ second) text at to (body + j) j
+Inv-loop text from to first second size at n body j₀ j = Matched (first ++ second) text at to (body + j) j
 
 abbrev μ-loop : tie.MeasureT-loop
-μ-loop text from to first second size at body j₀ j = to - body - j
+μ-loop text from to first second size at n body j₀ j = to - body - j
 
 abbrev Inv-lines : tie.InvT-lines
-Inv-lines text from to first second size at₀ at = (at ≤ to) × (closerIn (first ++ second) text at to ≡ closerIn (first ++ second) text from to)
+Inv-lines text from to first second size at₀ n₀ at n =
+    (at ≤ to) × (n ≤ at) × (further n (closerIn (first ++ second) text at to) ≡ closerIn (first ++ second) text from to)
 
 abbrev μ-lines : tie.MeasureT-lines
-μ-lines text from to first second size at₀ at = to - at
+μ-lines text from to first second size at₀ n₀ at n = to - at
 
 loop-holds : tie.Need-loop-holds Inv-loop μ-loop Inv-lines μ-lines
 loop-holds c = rw (add-zero _) (matched-start _ _ _ _ _ (omega arith) (omega arith) (c .run-end .ensures))
@@ -82,13 +84,18 @@ lines-again c =
     let at-line = at-loop .before .before .before in
     let start = at-line .before .before .before .before in (
       omega (arith, lineIn-to (start .args .text .now) (at-line .lines .at) (start .args .to) (omega arith) (omega arith)),
+      omega (
+        arith,
+        at-loop .loop .inv .ends,
+        lineIn-some (start .args .text .now) (at-line .lines .at) (start .args .to) (at-loop .before .before .if1 .left) (start .pre .1),
+      ),
       rw (c .line-end2 .ensures ∙ at-loop .loop .inv .ends)
-          (sym (closer-pass _ _ _ _ (at-loop .before .before .if1 .left) (start .pre .1) (differs (c .before))))
-          ∙ at-line .lines .inv .1,
+          (further-one _ _ ∙ ap (further _) (sym (closer-pass _ _ _ _ (at-loop .before .before .if1 .left) (start .pre .1) (differs (c .before)))))
+          ∙ at-line .lines .inv .2,
     )
 
 returns : tie.Need-returns Inv-loop μ-loop Inv-lines μ-lines
-returns c = sym (closer-none _ _ _ _ (c .if1 .taken)) ∙ c .before .lines .inv .1
+returns c = sym (further-nothing _) ∙ ap (further _) (sym (closer-none _ _ _ _ (c .if1 .taken))) ∙ c .before .lines .inv .2
 
 returns-2 : tie.Need-returns-2 Inv-loop μ-loop Inv-lines μ-lines
 returns-2 c =
@@ -99,9 +106,9 @@ returns-2 c =
     let start = at-line .before .before .before .before in
     let inv = at-loop .loop .inv in
     rw (at-end .line-end .ensures ∙ inv .ends)
-    (sym (closer-here _ _ _ _ (at-loop .before .before .if1 .left) (start .pre .1)
-    (matched-yes _ _ _ _ _ _ inv (rw length-append (at-end .before .if2 .taken)) _ _ (at-end .line-end .ensures) (at-trim .trim-end .ensures) (c .if3 .taken))))
-    ∙ at-line .lines .inv .1
+    (further-here _ _ _ ∙ ap (further _) (sym (closer-here _ _ _ _ (at-loop .before .before .if1 .left) (start .pre .1)
+    (matched-yes _ _ _ _ _ _ inv (rw length-append (at-end .before .if2 .taken)) _ _ (at-end .line-end .ensures) (at-trim .trim-end .ensures) (c .if3 .taken)))))
+    ∙ at-line .lines .inv .2
 
 pub find-closer-spec : {M : Type 1} → statement M
 find-closer-spec =
@@ -112,7 +119,7 @@ find-closer-spec =
     Inv-lines
     μ-lines
     (λ c. omega arith)
-    (λ c. (omega arith, refl))
+    (λ c. (omega arith, omega arith, further-zero _))
     (λ c κs. omega arith)
     loop-holds
     (λ c. omega arith)
@@ -130,6 +137,7 @@ find-closer-spec =
     loop-again
     (λ c. omega arith)
     (λ c κs. omega arith)
+    (λ c. omega arith)
     lines-less
     lines-again
     returns

@@ -4,14 +4,18 @@
 -- Assumes nothing.
 use mathlib.Core.Path.{_≡_, refl, sym, _∙_}
 use mathlib.Core.Bool.{false}
-use Prim.Native.Nat.{_-_, _≤_, _<_}
+use Prim.Native.Nat.{_+_, _-_, _≤_, _<_}
 use native.Mathlib.Omega.{arith}
 use lib.ListN.{length}
 use borrow.Author.Needs.{needs}
+use Rattle.text.specs.Parts.{lineIn}
+use Rattle.text.proofs.Laws.LinesIn.{lineIn-some, lineIn-to}
 use Rattle.rules.specs.Findings.{LineOf, NoEnd}
-use Rattle.rules.proofs.Laws.LineOf.{lineOf, lineSpan-start, lineSpan-next}
+use Rattle.rules.proofs.Laws.LineOf.{indent-run, after-end, lineOf, lineSpan-start, lineSpan-next}
 use Rattle.rules.proofs.Laws.Drawers.{noEnd-next}
-use Rattle.rules.proofs.Laws.Paragraphs.{paragraphEnd, paragraph-none, paragraph-blank, paragraph-stop, paragraph-pass}
+use Rattle.rules.proofs.Laws.NoEnds.{noEnd-line}
+use Rattle.rules.proofs.Laws.Paragraphs.{paragraphEnd, paragraph-none, paragraph-short, paragraph-newline, paragraph-plain}
+use Rattle.rules.proofs.Laws.Paragraphs.{paragraph-blank, paragraph-stop, paragraph-pass}
 use Rattle.rules.proofs.element.paragraph_end.Statement.{statement}
 use Rattle.rules.proofs.element.paragraph_end.Tie as tie
 
@@ -25,41 +29,62 @@ abbrev μ-loop : tie.MeasureT-loop
 loop-holds : tie.Need-loop-holds Inv-loop μ-loop
 loop-holds c = let start = c .before in (start .pre .0, start .pre .1, start .pre .2, refl)
 
+returns : tie.Need-returns Inv-loop μ-loop
+returns c =
+    let at-body = c .before in
+    let at-test = at-body .before in
+    let inv = at-test .before .loop .inv in
+    sym (paragraph-short _ _ _ (at-test .loop-test .taken) (inv .1) _ (at-body .run-end .ensures) (c .if1 .taken)) ∙ inv .3
+
+returns-2 : tie.Need-returns-2 Inv-loop μ-loop
+returns-2 c =
+    let at-some = c .before .before in
+    let at-body = at-some .before in
+    let at-test = at-body .before in
+    let inv = at-test .before .loop .inv in
+    sym (paragraph-newline _ _ _ (at-test .loop-test .taken) (inv .1) _ (at-body .run-end .ensures) (at-some .if1 .left) (c .if2 .taken)) ∙ inv .3
+
+-- ---- a line whose first byte may stop
+
+-- where the line at `at` is looked for
+abbrev in-loop : tie.After-line-at Inv-loop μ-loop → tie.In-loop Inv-loop μ-loop
+in-loop c = c .before .before .before .before .before .before .before
+
 -- the line at `at`
-line : (c : tie.After-line-at Inv-loop μ-loop) → let start = c .before .before .before .before in
-    LineOf (start .args .text .now) (c .line-at .result) (start .args .to)
-line c = let at-test = c .before in lineOf _ _ _ _ (at-test .loop-test .taken) (at-test .before .loop .inv .1) (c .line-at .ensures)
+line : (c : tie.After-line-at Inv-loop μ-loop) → let args = in-loop c .before .before .before .args in
+    LineOf (args .text .now) (c .line-at .result) (args .to)
+line c = let at-test = in-loop c in lineOf _ _ _ _ (at-test .loop-test .taken) (at-test .before .loop .inv .1) (c .line-at .ensures)
 
 -- it starts there
-here : (c : tie.After-line-at Inv-loop μ-loop) → c .line-at .result .start ≡ c .before .before .loop .at
+here : (c : tie.After-line-at Inv-loop μ-loop) → c .line-at .result .start ≡ in-loop c .before .loop .at
 here c = lineSpan-start _ _ _ _ (c .line-at .ensures)
 
 -- no `:END:` line from it on, where `still` is false
 none : (c : tie.After-line-at Inv-loop μ-loop) →
-    let at-loop = c .before .before in
-    let start = at-loop .before .before in
-    at-loop .loop .still ≡ false → NoEnd (start .args .text .now) (c .line-at .result .start) (start .args .to)
-none c z = rw (here c) (c .before .before .loop .inv .2 z)
+    let at-loop = c .before .before .before .before .before .before .before .before in
+    let args = at-loop .before .before .args in
+    at-loop .loop .still ≡ false → NoEnd (args .text .now) (c .line-at .result .start) (args .to)
+none c z = rw (here c) (in-loop c .before .loop .inv .2 z)
 
 next : (c : tie.After-line-at Inv-loop μ-loop) →
-    let at-loop = c .before .before in
+    let at-loop = in-loop c .before in
     (at-loop .loop .at < c .line-at .result .end) × (c .line-at .result .end ≤ at-loop .before .before .args .to)
-next c = let at-test = c .before in lineSpan-next _ _ _ _ (c .line-at .ensures) (at-test .loop-test .taken) (at-test .before .loop .inv .1)
+next c = let at-test = in-loop c in lineSpan-next _ _ _ _ (c .line-at .ensures) (at-test .loop-test .taken) (at-test .before .loop .inv .1)
 
-returns : tie.Need-returns Inv-loop μ-loop
-returns c =
+returns-3 : tie.Need-returns-3 Inv-loop μ-loop
+returns-3 c =
     let at-line = c .before .before in
-    sym (rw (here at-line) at (paragraph-blank _ _ _ (line at-line) (c .if1 .taken))) ∙ at-line .before .before .loop .inv .3
+    sym (rw (here at-line) at (paragraph-blank _ _ _ (line at-line) (c .if4 .taken))) ∙ in-loop at-line .before .loop .inv .3
 
 find-rule-requires : tie.Need-find-rule-requires Inv-loop μ-loop
 find-rule-requires c κs = let at-line = c .before .before in (line at-line, λ z. noEnd-next _ _ _ (line at-line) (none at-line z))
 
-returns-2 : tie.Need-returns-2 Inv-loop μ-loop
-returns-2 c =
+returns-4 : tie.Need-returns-4 Inv-loop μ-loop
+returns-4 c =
     let at-rule = c .before .before in
     let at-line = at-rule .before .before .before in
     sym (rw (here at-line) at (paragraph-stop _ _ _ (line at-line) _ (at-rule .find-rule .ensures) _ (c .enum-told .given .1)))
-    ∙ at-line .before .before .loop .inv .3
+    ∙ in-loop at-line .before .loop .inv .3
 
 may-end-requires : tie.Need-may-end-requires Inv-loop μ-loop
 may-end-requires c κs = let at-line = c .before .before .before .before .before in (line at-line, none at-line)
@@ -72,17 +97,49 @@ loop-again c =
     let at-rule = c .before .before .before in
     let at-test = at-rule .before in
     let at-line = at-test .before .before in
-    let inv = at-line .before .before .loop .inv in (
+    let inv = in-loop at-line .before .loop .inv in (
       next at-line .1,
       inv .1,
       c .may-end .ensures,
       rw (here at-line)
-          at (paragraph-pass _ _ _ (line at-line) _ (at-rule .find-rule .ensures) (at-test .if1 .left) (c .before .enum-told2 .given .1))
+          at (paragraph-pass _ _ _ (line at-line) _ (at-rule .find-rule .ensures) (at-test .if4 .left) (c .before .enum-told2 .given .1))
           ∙ inv .3,
     )
 
-returns-3 : tie.Need-returns-3 Inv-loop μ-loop
-returns-3 c = sym (paragraph-none _ _ _ (c .loop-test .left)) ∙ c .before .loop .inv .3
+-- ---- a line whose first byte does not
+
+-- it ends where what is left of it past the indentation does
+end : (c : tie.After-line-end Inv-loop μ-loop) →
+    let at-loop = c .before .before .before .before .before .before .before .before in
+    let args = at-loop .before .before .args in
+    c .line-end .result ≡ at-loop .loop .at + length (lineIn (args .text .now) (at-loop .loop .at) (args .to))
+end c = c .line-end .ensures ∙ after-end _ _ _ _ (indent-run _ _ _ _ (c .before .before .before .before .before .before .run-end .ensures))
+
+loop-less-2 : tie.Need-loop-less-2 Inv-loop μ-loop
+loop-less-2 c =
+    let at-test = c .before .before .before .before .before .before .before in
+    let args = at-test .before .before .before .args in
+    omega (arith, end c, lineIn-some (args .text .now) (at-test .before .loop .at) (args .to) (at-test .loop-test .taken) (at-test .before .loop .inv .1))
+
+loop-again-2 : tie.Need-loop-again-2 Inv-loop μ-loop
+loop-again-2 c =
+    let at-stop = c .before .before in
+    let at-byte = at-stop .before in
+    let at-some = at-byte .before .before in
+    let at-body = at-some .before in
+    let at-test = at-body .before in
+    let inv = at-test .before .loop .inv in
+    let plain = at-stop .may-stop .ensures (c .before .if3 .left) in (
+      rw (end c) (lineIn-to _ _ _ (inv .0) (inv .1)),
+      inv .1,
+      λ z. rw (end c) (noEnd-line _ _ _ (inv .2 z)),
+      rw (end c)
+          (paragraph-plain _ _ _ (at-test .loop-test .taken) (inv .1) _ (at-body .run-end .ensures) (at-some .if1 .left) (at-byte .if2 .left) plain)
+          ∙ inv .3,
+    )
+
+returns-5 : tie.Need-returns-5 Inv-loop μ-loop
+returns-5 c = sym (paragraph-none _ _ _ (c .loop-test .left)) ∙ c .before .loop .inv .3
 
 pub paragraph-end-spec : {M : Type 1} → statement M
 paragraph-end-spec =
@@ -93,11 +150,19 @@ paragraph-end-spec =
     loop-holds
     (λ c κs. omega arith)
     returns
+    (λ c. omega arith)
+    returns-2
+    (λ c κs. search needs)
+    (λ c κs. omega arith)
+    returns-3
     find-rule-requires
     (λ c. search needs)
-    returns-2
+    returns-4
     (λ c. search needs)
     may-end-requires
     loop-less
     loop-again
-    returns-3)
+    (λ c κs. omega arith)
+    loop-less-2
+    loop-again-2
+    returns-5)

@@ -21,7 +21,7 @@ abbrev μ-loop : tie.MeasureT-loop
 loop-holds : tie.Need-loop-holds Inv-loop μ-loop
 loop-holds c =
     let a = c .before .before .args in
-    let found = ahead-find (a .most) (a .text .now) (a .from) (a .from) (c .find-byte .result) (omega arith) (omega arith) (c .find-byte .ensures) in
+    let found = ahead-find (a .most) (a .text .now) (a .from) (a .from) (c .find-far .result) (omega arith) (omega arith) (c .find-far .ensures) in
     (omega arith, omega arith, found .0, sym (found .1) ∙ ahead-start (isHeadingUpTo (a .most)) (a .text .now) (a .from))
 
 returns : tie.Need-returns Inv-loop μ-loop
@@ -30,17 +30,17 @@ returns c =
     sym (ahead-here _ _ _ _ (sym (c .before .is-heading-at .ensures) ∙ c .if1 .taken)) ∙ at-loop .loop .inv .3
 
 -- the next star, after one at `at` that begins no heading line that is asked for
-next : (c : tie.After-find-byte2 Inv-loop μ-loop) →
+next : (c : tie.After-find-far2 Inv-loop μ-loop) →
     let at-loop = c .before .before .before .before in
     let a = at-loop .before .before .before .args in
     let f = isHeadingUpTo (a .most) in
-    (at-loop .loop .at < c .find-byte2 .result) × (c .find-byte2 .result ≤ length (a .text .now))
-    × (ahead f (a .text .now) (a .from) (at-loop .loop .at) ≡ ahead f (a .text .now) (a .from) (c .find-byte2 .result))
+    (at-loop .loop .at < c .find-far2 .result) × (c .find-far2 .result ≤ length (a .text .now))
+    × (ahead f (a .text .now) (a .from) (at-loop .loop .at) ≡ ahead f (a .text .now) (a .from) (c .find-far2 .result))
 next c =
     let at-loop = c .before .before .before .before in
     let a = at-loop .before .before .before .args in
     let at = at-loop .loop .at in
-    let found = ahead-find (a .most) (a .text .now) (a .from) (at + 1) (c .find-byte2 .result) (omega arith) (omega arith) (c .find-byte2 .ensures) in
+    let found = ahead-find (a .most) (a .text .now) (a .from) (at + 1) (c .find-far2 .result) (omega arith) (omega arith) (c .find-far2 .ensures) in
     let past =
     ahead-step (isHeadingUpTo (a .most)) (a .text .now) (a .from) at (omega arith) (omega arith)
     (sym (c .before .before .is-heading-at .ensures) ∙ c .before .if1 .left) in

@@ -2,15 +2,19 @@
 -- Assumes nothing.
 use mathlib.Core.Path.{sym, _∙_}
 use native.Mathlib.Omega.{arith}
-use borrow.Author.Needs.{needs}
 use borrow.Author.Tests.{not-true, not-false}
-use Rattle.rules.proofs.Laws.LineOf.{lineOf-order}
+use Rattle.rules.proofs.Laws.LineOf.{lineOf-from, lineOf-order}
 use Rattle.rules.proofs.Laws.Rules.{fixedWidth-no, fixedWidth-yes}
 use Rattle.rules.proofs.lines.try_fixed_width.Statement.{statement}
 use Rattle.rules.proofs.lines.try_fixed_width.Tie as tie
 
+starts-line-requires : tie.Need-starts-line-requires
+starts-line-requires c κs = let o = lineOf-order _ _ _ (c .before .pre) in omega arith
+
 returns : tie.Need-returns
-returns c = fixedWidth-no _ _ _ (c .before .before .before .pre) (sym (c .before .is-line .ensures) ∙ not-true _ (c .if1 .taken))
+returns c =
+    let pre = c .before .before .before .pre in
+    fixedWidth-no _ _ _ pre (sym (c .before .starts-line .ensures _ (lineOf-from _ _ _ pre)) ∙ not-true _ (c .if1 .taken))
 
 lines-end-requires : tie.Need-lines-end-requires
 lines-end-requires c κs = let o = lineOf-order _ _ _ (c .before .before .before .pre) in omega arith
@@ -18,8 +22,9 @@ lines-end-requires c κs = let o = lineOf-order _ _ _ (c .before .before .before
 returns-2 : tie.Need-returns-2
 returns-2 c =
     let at-test = c .before in
-    fixedWidth-yes _ _ _ (at-test .before .before .before .pre) (sym (at-test .before .is-line .ensures) ∙ not-false _ (at-test .if1 .left))
-    _ (c .lines-end .ensures)
+    let pre = at-test .before .before .before .pre in
+    fixedWidth-yes _ _ _ pre (sym (at-test .before .starts-line .ensures _ (lineOf-from _ _ _ pre)) ∙ not-false _ (at-test .if1 .left))
+    _ (c .lines-end .ensures .0)
 
 pub try-fixed-width-spec : {M : Type 1} → statement M
-try-fixed-width-spec = tie.close (tie.spec (λ c κs. search needs) returns lines-end-requires returns-2)
+try-fixed-width-spec = tie.close (tie.spec starts-line-requires returns lines-end-requires returns-2)

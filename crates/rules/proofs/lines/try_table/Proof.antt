@@ -2,16 +2,24 @@
 -- Assumes nothing.
 use mathlib.Core.Path.{sym, _∙_}
 use native.Mathlib.Omega.{arith}
-use borrow.Author.Needs.{needs}
 use borrow.Author.Tests.{not-true, not-false}
-use Rattle.rules.proofs.Laws.LineOf.{lineOf-order}
+use Rattle.text.specs.Parts.{linesIn}
+use Rattle.text.proofs.Laws.Lines.{leading-le}
+use Rattle.text.proofs.Laws.LinesIn.{linesIn-length}
+use Rattle.rules.specs.LineTests.{isRow}
+use Rattle.rules.proofs.Laws.LineOf.{lineOf-from, lineOf-order}
 use Rattle.rules.proofs.Laws.LineRuns.{past-to}
 use Rattle.rules.proofs.Laws.Rules.{table-no, table-yes}
 use Rattle.rules.proofs.lines.try_table.Statement.{statement}
 use Rattle.rules.proofs.lines.try_table.Tie as tie
 
+starts-line-requires : tie.Need-starts-line-requires
+starts-line-requires c κs = let o = lineOf-order _ _ _ (c .before .pre) in omega arith
+
 returns : tie.Need-returns
-returns c = table-no _ _ _ (c .before .before .before .pre) (sym (c .before .is-line .ensures) ∙ not-true _ (c .if1 .taken))
+returns c =
+    let pre = c .before .before .before .pre in
+    table-no _ _ _ pre (sym (c .before .starts-line .ensures _ (lineOf-from _ _ _ pre)) ∙ not-true _ (c .if1 .taken))
 
 lines-end-requires : tie.Need-lines-end-requires
 lines-end-requires c κs = let o = lineOf-order _ _ _ (c .before .before .before .pre) in omega arith
@@ -19,14 +27,26 @@ lines-end-requires c κs = let o = lineOf-order _ _ _ (c .before .before .before
 lines-end-requires-2 : tie.Need-lines-end-requires-2
 lines-end-requires-2 c κs =
     let o = lineOf-order _ _ _ (c .before .before .before .before .pre) in
-    (past-to _ _ _ _ (o .4) (o .5) _ (c .lines-end .ensures), o .5)
+    (past-to _ _ _ _ (o .4) (o .5) _ (c .lines-end .ensures .0), o .5)
+
+add : tie.Need-add-t9
+add c =
+    let at-rows = c .before .before in
+    let start = at-rows .before .before .before .before in
+    let s = start .args .text .now in
+    let l = start .args .line in
+    let e = start .args .to in
+    let o = lineOf-order _ _ _ (start .pre) in
+    omega (arith, at-rows .lines-end .ensures .1, leading-le isRow (linesIn s (l .end) e), linesIn-length s (l .end) e (o .4) (o .5))
 
 returns-2 : tie.Need-returns-2
 returns-2 c =
-    let at-rows = c .before in
+    let at-formulas = c .before in
+    let at-rows = at-formulas .before in
     let at-test = at-rows .before in
-    table-yes _ _ _ (at-test .before .before .before .pre) (sym (at-test .before .is-line .ensures) ∙ not-false _ (at-test .if1 .left))
-    _ _ (at-rows .lines-end .ensures) (c .lines-end2 .ensures)
+    let pre = at-test .before .before .before .pre in
+    table-yes _ _ _ pre (sym (at-test .before .starts-line .ensures _ (lineOf-from _ _ _ pre)) ∙ not-false _ (at-test .if1 .left))
+    _ _ _ (at-rows .lines-end .ensures .0) (at-formulas .lines-end2 .ensures .0) (at-rows .lines-end .ensures .1)
 
 pub try-table-spec : {M : Type 1} → statement M
-try-table-spec = tie.close (tie.spec (λ c κs. search needs) returns lines-end-requires lines-end-requires-2 returns-2)
+try-table-spec = tie.close (tie.spec starts-line-requires returns lines-end-requires lines-end-requires-2 add returns-2)

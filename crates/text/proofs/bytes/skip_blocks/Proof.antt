@@ -28,7 +28,7 @@ loop-again c =
     let a = at-loop .before .before .args in
     let i = at-loop .loop .i in
     let skipped =
-    run-part-skip (isNot (a .b)) (a .text .now) 16 i (a .to) (omega arith) (omega arith)
+    run-part-skip (isNot (a .b)) (a .text .now) 64 i (a .to) (omega arith) (omega arith)
     (λ k h. isNot-yes (a .b) (getD (a .text .now) (i + k) 0) (at-call .has-byte .ensures (c .if1 .left) k h)) in
     omega arith
 
