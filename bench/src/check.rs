@@ -1,4 +1,4 @@
-//! The limits that the gate holds. What is compared is the best of many samples,
+//! The limits of docs/BENCHMARK.md. What is compared is the best of many samples,
 //! and a ratio has several tries, so that noise alone does not fail it.
 
 use std::time::Duration;

@@ -36,6 +36,7 @@ pub fn print() {
             print_row(&text);
         }
     }
+    print_row(&texts::shipped());
     for size in SIZES {
         for text in texts::hostile(size) {
             print_row(&text);

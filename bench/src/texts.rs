@@ -1,4 +1,4 @@
-//! The texts: made by rule, the same in every run.
+//! The texts: made by rule, the same in every run, and the book that ships.
 
 /// A text to read, and what it is like.
 pub struct Text {
@@ -18,6 +18,15 @@ pub fn ordinary(size: usize) -> [Text; 2] {
             bytes: prose(size),
         },
     ]
+}
+
+/// The order book that ships with the program. Its lines are shorter and more mixed than
+/// those of the made one: many keywords, blocks and stars in the text.
+pub fn shipped() -> Text {
+    Text {
+        name: "shipped book",
+        bytes: include_bytes!("../../tests/books/orders.org").to_vec(),
+    }
 }
 
 /// Texts made to be slow: each line opens something, and nothing is ever closed,
