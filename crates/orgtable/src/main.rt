@@ -3,11 +3,8 @@
 mod output;
 
 use libc::STDIN_FILENO;
-use output::print_need;
+use output::print_reading;
 use output::print_refusal;
-use output::print_table;
-use reading::answer::Answer;
-use reading::read::read;
 
 fn main() {
     let mut buffer = [0u8; 65536];
@@ -18,10 +15,5 @@ fn main() {
         print_refusal(1);
         return;
     }
-    match read(&buffer[..used], &mut table) {
-        Answer::Done(count) => print_table(&table, count),
-        Answer::TooLong => print_refusal(1),
-        Answer::TooDeep => print_refusal(2),
-        Answer::NoRoom(count) => print_need(3, count),
-    }
+    print_reading(&buffer[..used], &mut table);
 }

@@ -1,30 +1,30 @@
-ghost use Prim.Native.Nat.{_≤_};
-ghost use lib.ListN.{length};
+ghost use mathlib.Core.List.{[], _∷_, _++_};
+ghost use mathlib.Core.Path.{_≡_};
+ghost use Prim.Native.Nat.{_+_, _*_, _≤_, _<_};
+ghost use lib.ListN.{length, take};
+ghost use lib.Seq.{slice};
+ghost use Rattle.text.specs.Runs.{word};
+ghost use Rattle.orgtable.specs.Printed.{decimal, line, recordLines, refused, printed, printedText, shown};
 use libc::STDOUT_FILENO;
+use reading::answer::Answer;
+use reading::read::read;
 
-// Where the next byte goes in a buffer with so many bytes in use; a full buffer is written out first.
-fn make_room(out: &[u8], used: usize) -> usize
-    ensures { λ r. ⌜ r ≤ length (now (out .entry)) ⌝ }
+// One byte more after those in use, and how many are then in use.
+fn put(out: &mut [u8], used: usize, b: u8) -> usize
+    requires { ⌜ used < length (now out) ⌝ }
+    ensures { λ r. ⌜ take r (now (out .exit)) ≡ take used (now (out .entry)) ++ b ∷ [] ⌝ }
+    ensures { λ r. ⌜ r ≡ used + 1 ⌝ }
 {
-    if used < out.len() {
-        return used;
-    }
-    io::write_all(STDOUT_FILENO, out);
-    0
-}
-
-// One byte more, and how many are then in use.
-fn put(out: &mut [u8], used: usize, b: u8) -> usize {
-    let at = make_room(out, used);
-    if out.len() <= at {
-        return at;
-    }
-    out[at] = b;
-    at + 1
+    out[used] = b;
+    used + 1
 }
 
 // Some bytes more.
-fn put_all(out: &mut [u8], used: usize, bytes: &[u8]) -> usize {
+fn put_all(out: &mut [u8], used: usize, bytes: &[u8]) -> usize
+    requires { ⌜ used + length (now bytes) ≤ length (now out) ⌝ }
+    ensures { λ r. ⌜ take r (now (out .exit)) ≡ take used (now (out .entry)) ++ now (bytes .entry) ⌝ }
+    ensures { λ r. ⌜ r ≡ used + length (now (bytes .entry)) ⌝ }
+{
     let mut at = used;
     let mut i = 0;
     while i < bytes.len() {
@@ -35,58 +35,124 @@ fn put_all(out: &mut [u8], used: usize, bytes: &[u8]) -> usize {
 }
 
 // The digits of a number.
-fn put_number(out: &mut [u8], used: usize, n: u32) -> usize {
+fn put_number(out: &mut [u8], used: usize, n: u64) -> usize
+    requires { ⌜ used + length (decimal n) ≤ length (now out) ⌝ }
+    ensures { λ r. ⌜ take r (now (out .exit)) ≡ take used (now (out .entry)) ++ decimal n ⌝ }
+    ensures { λ r. ⌜ r ≡ used + length (decimal n) ⌝ }
+{
     let mut digits = [0u8; 20];
-    let size = io::decimal(n as u64, &mut digits);
+    let size = io::decimal(n, &mut digits);
     put_all(out, used, &digits[..size])
 }
 
-// The records of a table, a line of seven numbers each.
-fn put_table(out: &mut [u8], table: &[u32], count: usize) -> usize {
+// A number of a table and the byte after it: at most 11 bytes.
+fn put_cell(out: &mut [u8], used: usize, n: u32, after: u8) -> usize
+    requires { ⌜ used + 11 ≤ length (now out) ⌝ }
+    ensures { λ r. ⌜ take r (now (out .exit)) ≡ take used (now (out .entry)) ++ decimal n ++ after ∷ [] ⌝ }
+    ensures { λ r. ⌜ r ≤ used + 11 ⌝ }
+{
+    let end = put_number(out, used, n as u64);
+    put(out, end, after)
+}
+
+// The line of a record, whose seven numbers stand at an index: at most 77 bytes.
+fn put_line(out: &mut [u8], used: usize, table: &[u32], at: usize) -> usize
+    requires { ⌜ (used + 77 ≤ length (now out)) × (at + 7 ≤ length (now table)) ⌝ }
+    ensures { λ r. ⌜ take r (now (out .exit)) ≡ take used (now (out .entry)) ++ line (slice at (at + 7) (now (table .entry))) ⌝ }
+    ensures { λ r. ⌜ r ≤ used + 77 ⌝ }
+{
+    let mut end = used;
+    let mut i = at;
+    while i < at + 6 {
+        end = put_cell(out, end, table[i], b' ');
+        i += 1;
+    }
+    put_cell(out, end, table[i], b'\n')
+}
+
+// The first records of a table, a line each.
+fn put_table(out: &mut [u8], table: &[u32], count: usize) -> usize
+    requires { ⌜ (count * 7 ≤ length (now table)) × (count * 77 ≤ length (now out)) ⌝ }
+    ensures { λ r. ⌜ take r (now (out .exit)) ≡ recordLines count (now (table .entry)) ⌝ }
+    ensures { λ r. ⌜ r ≤ length (now (out .entry)) ⌝ }
+{
     let mut used = 0;
     let mut i = 0;
-    while i < table.len() {
-        if count <= i / 7 {
-            return used;
-        }
-        used = put_number(out, used, table[i]);
+    while i < count {
+        used = put_line(out, used, table, i * 7);
         i += 1;
-        used = put(out, used, separator(i));
     }
     used
 }
 
-// What stands after so many numbers: a line's end after each seventh, else a space.
-fn separator(numbers: usize) -> u8 {
-    if numbers % 7 == 0 { b'\n' } else { b' ' }
+// The start of a refusal's line.
+fn put_refused(out: &mut [u8], number: u64) -> usize
+    requires { ⌜ 28 ≤ length (now out) ⌝ }
+    ensures { λ r. ⌜ take r (now (out .exit)) ≡ word "refused " ++ decimal number ⌝ }
+    ensures { λ r. ⌜ r ≤ 28 ⌝ }
+{
+    let used = put_all(out, 0, b"refused ");
+    put_number(out, used, number)
 }
 
-// Writes the bytes in use.
-fn flush(out: &[u8], used: usize) {
-    if used <= out.len() {
-        io::write_all(STDOUT_FILENO, &out[0..used]);
+// A refusal's line.
+fn put_refusal(out: &mut [u8], number: u64) -> usize
+    requires { ⌜ 29 ≤ length (now out) ⌝ }
+    ensures { λ r. ⌜ take r (now (out .exit)) ≡ refused (number ∷ []) ⌝ }
+    ensures { λ r. ⌜ r ≤ 29 ⌝ }
+{
+    let used = put_refused(out, number);
+    put(out, used, b'\n')
+}
+
+// The line of a refusal that says how many records are needed.
+fn put_need(out: &mut [u8], number: u64, count: usize) -> usize
+    requires { ⌜ 50 ≤ length (now out) ⌝ }
+    ensures { λ r. ⌜ take r (now (out .exit)) ≡ refused (number ∷ count ∷ []) ⌝ }
+    ensures { λ r. ⌜ r ≤ 50 ⌝ }
+{
+    let told = put_refused(out, number);
+    let spaced = put(out, told, b' ');
+    let used = put_number(out, spaced, count as u64);
+    put(out, used, b'\n')
+}
+
+// What is printed for an answer and the table that it left.
+fn put_answer(out: &mut [u8], answer: Answer, table: &[u32]) -> usize
+    requires { ⌜ (50 ≤ length (now out)) × (shown answer * 7 ≤ length (now table)) × (shown answer * 77 ≤ length (now out)) ⌝ }
+    ensures { λ r. ⌜ take r (now (out .exit)) ≡ printed answer (now (table .entry)) ⌝ }
+    ensures { λ r. ⌜ r ≤ length (now (out .entry)) ⌝ }
+{
+    match answer {
+        Answer::Done(count) => put_table(out, table, count),
+        Answer::TooLong => put_refusal(out, 1),
+        Answer::TooDeep => put_refusal(out, 2),
+        Answer::NoRoom(count) => put_need(out, 3, count),
     }
 }
 
-// Writes the records of a table, gathered into large pieces.
-pub fn print_table(table: &[u32], count: usize) {
-    let mut out = [0u8; 65536];
-    let used = put_table(&mut out, table, count);
-    flush(&out, used);
+// What is printed for a text, read into a table: at most 11 bytes a number, or a refusal of at most 50.
+fn put_reading(out: &mut [u8], text: &[u8], table: &mut [u32]) -> usize
+    requires { ⌜ (50 ≤ length (now out)) × (length (now table) * 11 ≤ length (now out)) ⌝ }
+    ensures { λ r. ⌜ take r (now (out .exit)) ≡ printedText (now (text .entry)) (now (table .entry)) ⌝ }
+    ensures { λ r. ⌜ r ≤ length (now (out .entry)) ⌝ }
+{
+    let answer = read(text, table);
+    put_answer(out, answer, table)
+}
+
+// Reads a text into a table, and writes what is printed for it in one piece.
+pub fn print_reading(text: &[u8], table: &mut [u32])
+    requires { ⌜ length (now table) ≤ 16384 ⌝ }
+{
+    let mut out = [0u8; 180224];
+    let used = put_reading(&mut out, text, table);
+    io::write_all(STDOUT_FILENO, &out[..used]);
 }
 
 // Writes a refusal's line.
 pub fn print_refusal(number: u64) {
-    io::write_all(STDOUT_FILENO, b"refused ");
-    io::print_decimal(STDOUT_FILENO, number);
-    io::write_all(STDOUT_FILENO, b"\n");
-}
-
-// Writes the line of a refusal that says how many records are needed.
-pub fn print_need(number: u64, count: usize) {
-    io::write_all(STDOUT_FILENO, b"refused ");
-    io::print_decimal(STDOUT_FILENO, number);
-    io::write_all(STDOUT_FILENO, b" ");
-    io::print_decimal(STDOUT_FILENO, count as u64);
-    io::write_all(STDOUT_FILENO, b"\n");
+    let mut out = [0u8; 29];
+    let used = put_refusal(&mut out, number);
+    io::write_all(STDOUT_FILENO, &out[..used]);
 }

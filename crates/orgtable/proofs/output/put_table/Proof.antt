@@ -1,21 +1,44 @@
--- `orgtable::output::put_table` meets its contract: it is safe and ends. The invariant keeps the buffer's length; the measure is the numbers left.
+-- `orgtable::output::put_table` meets its contract.
+-- The invariant: the bytes in use, followed by the lines of the records from `i` on, are those asked for, and each of these records has
+-- 77 bytes left. The measure is these records. From Lines.
 -- Assumes nothing.
 use mathlib.Core.Path.{_≡_, refl, _∙_}
-use Prim.Native.Nat.{_-_, _≤_}
+use mathlib.Core.List.{_++_}
+use Prim.Native.Nat.{_+_, _-_, _*_, _≤_}
+use native.Mathlib.Nat.{sub-zero}
 use native.Mathlib.Omega.{arith}
-use borrow.Author.Needs.{needs}
-use lib.ListN.{length}
+use lib.ListN.{length, take, drop}
+use Rattle.orgtable.specs.Printed.{recordLines}
+use Rattle.orgtable.proofs.Laws.Lines.{lines-turn, lines-end}
 use Rattle.orgtable.proofs.output.put_table.Statement.{statement}
 use Rattle.orgtable.proofs.output.put_table.Tie as tie
 
 abbrev Inv-loop : tie.InvT-loop
-Inv-loop out₀ table count used₀ i₀ out used i = (i ≤ length table) × (length out ≡ length out₀)
+Inv-loop out₀ table count used₀ i₀ out used i =
+    (i ≤ count) × (length out ≡ length out₀) × (used + 77 * (count - i) ≤ length out)
+    × (take used out ++ recordLines (count - i) (drop (i * 7) table) ≡ recordLines count table)
 
 abbrev μ-loop : tie.MeasureT-loop
-μ-loop out₀ table count used₀ i₀ out used i = length table - i
+μ-loop out₀ table count used₀ i₀ out used i = count - i
 
-mul-put-number : tie.Need-mul-put-number Inv-loop μ-loop
-mul-put-number c = search needs
+loop-again : tie.Need-loop-again Inv-loop μ-loop
+loop-again c =
+    let put = c .before .before .put-line in
+    let at-loop = c .before .before .before .before .before in
+    let inv = at-loop .loop .inv in
+    let start = at-loop .before .before .before in (
+      omega arith,
+      put .kept .0 ∙ inv .1,
+      omega arith,
+      lines-turn (start .args .table .now) (at-loop .loop .i) (start .args .count)
+          (take (at-loop .loop .used) (at-loop .loop .out)) _ (inv .3) _ (omega arith) (put .ensures .0),
+    )
+
+returns : tie.Need-returns Inv-loop μ-loop
+returns c =
+    let at-loop = c .before in
+    let start = at-loop .before .before .before in
+    (lines-end (start .args .table .now) (at-loop .loop .i) (start .args .count) _ _ (at-loop .loop .inv .3) (omega arith), omega arith)
 
 pub put-table-spec : {M : Type 1} → statement M
 put-table-spec =
@@ -23,16 +46,11 @@ put-table-spec =
     (tie.spec
     Inv-loop
     μ-loop
-    (λ c. (omega arith, refl))
-    (λ c. c .before .before .loop .inv .1)
-    (λ c. search needs)
-    mul-put-number
+    (λ c. (omega arith, refl, omega arith, rw sub-zero))
     (λ c. omega arith)
-    (λ c κs. search needs)
+    (λ c κs. omega arith)
     (λ c. omega arith)
-    (λ c κs. search needs)
-    (λ c κs. search needs)
     (λ c. omega arith)
-    (λ c. (omega arith, c .before .before .put .kept .0 ∙ c .before .before .before .before .before .before .before .put-number .kept .0 ∙ c .before .before .before .before .before .before .before .before .before .before .before .before .loop .inv .1))
+    loop-again
     (λ c. c .before .loop .inv .1)
-    (λ c. search needs))
+    returns)

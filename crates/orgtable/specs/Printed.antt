@@ -1,0 +1,66 @@
+-- What the program prints  [01 "Sample readings"].
+use mathlib.Core.Bool.{true, false}
+use mathlib.Core.List.{List, [], _∷_, _++_}
+use Prim.Native.Nat.{ℕ, zero, suc, _+_, _/_, _%_}
+use lib.Dec.{ltb}
+use lib.ListN.{take, drop}
+use Rattle.text.specs.Runs.{word}
+use Rattle.reading.specs.declared.answer.Answer.{Answer}
+use Rattle.reading.specs.declared.answer.Answer.the-variants.{Done, TooLong, TooDeep, NoRoom}
+use Rattle.reading.specs.Records.{recordSize}
+use Rattle.reading.specs.Reading.{reading}
+use Rattle.reading.specs.Answers.{answer, leaves, OpenAnswers}
+
+abbrev pub newline : ℕ
+newline = 10
+
+abbrev pub space : ℕ
+space = 32
+
+abbrev pub digit : ℕ → ℕ
+digit d = 48 + d
+
+-- A number in decimal, in ASCII, with no zero in front: `0`, `35`. First one of at most k + 1 digits, then any, since n has at most n + 1.
+unfoldable pub digitsUpTo : ℕ → ℕ → List ℕ
+digitsUpTo zero n = digit n ∷ []
+digitsUpTo (suc k) n = elim (ltb n 10) [ true ↦ digit n ∷ [] | false ↦ digitsUpTo k (n / 10) ++ digit (n % 10) ∷ [] ]
+
+unfoldable pub decimal : ℕ → List ℕ
+decimal n = digitsUpTo n n
+
+-- Numbers on a line, a space between two, byte 10 at the end: `1 0 35 0 35 0 0`.
+unfoldable pub line : List ℕ → List ℕ
+line [] = newline ∷ []
+line (n ∷ []) = decimal n ++ newline ∷ []
+line (n ∷ m ∷ ns) = decimal n ++ space ∷ line (m ∷ ns)
+
+-- The first n records of a table, a line each. A record is seven numbers  [01 "A record"].
+unfoldable pub recordLines : ℕ → List ℕ → List ℕ
+recordLines zero t = []
+recordLines (suc n) t = line (take recordSize t) ++ recordLines n (drop recordSize t)
+
+-- On refusal it prints one line: `refused 1`, `refused 2`, or `refused 3`, a space and the count.
+unfoldable pub refused : List ℕ → List ℕ
+refused ns = word "refused " ++ line ns
+
+abbrev pub printed : Answer → List ℕ → List ℕ
+printed (Done n) t = recordLines n t
+printed TooLong t = refused (1 ∷ [])
+printed TooDeep t = refused (2 ∷ [])
+printed (NoRoom n) t = refused (3 ∷ n ∷ [])
+
+-- What is printed for a text s, read into the table t.
+abbrev pub printedText : List ℕ → List ℕ → List ℕ
+printedText s t = printed (answer s t) (leaves (answer s t) (reading s) t)
+
+-- how many records of the table are printed
+abbrev pub shown : Answer → ℕ
+shown (Done n) = n
+shown TooLong = 0
+shown TooDeep = 0
+shown (NoRoom n) = 0
+
+-- opens the definitions of this file and of those it stands on, for computed examples
+unfoldable pub OpenPrinted : Type 1
+unfolding OpenAnswers digitsUpTo decimal line recordLines refused
+OpenPrinted = Type 0
