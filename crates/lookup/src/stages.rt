@@ -16,6 +16,7 @@ use text::bytes::Class;
 use text::bytes::run_end;
 use text::line::line_at;
 use text::line::line_end;
+use text::marks::word_end;
 use text::word::is_word;
 
 // The first byte after a heading line.
@@ -44,7 +45,7 @@ pub fn is_bad_key(key: &[u8]) -> bool
     if size == 0 || 64 < size {
         return true;
     }
-    if run_end(key, 0, size, Class::NonBlank) < size {
+    if word_end(key, 0, size) < size {
         return true;
     }
     key[size - 1] == b'+'

@@ -23,6 +23,7 @@ use text::bytes::run_end;
 use text::line::LineSpan;
 use text::line::first_line;
 use text::line::line_at;
+use text::marks::word_end;
 use text::word::begins_with;
 
 // The record of a node property line, or of a row.
@@ -46,7 +47,7 @@ fn line_record(text: &[u8], line: LineSpan, to: usize, rows: bool, parent: usize
             detail: detail,
         };
     }
-    let marker = run_end(text, line.from, line.to, Class::NonBlank);
+    let marker = word_end(text, line.from, line.to);
     Record {
         kind: kind::NODE_PROPERTY,
         start: line.start,

@@ -10,9 +10,8 @@ use crate::closer::find_closer;
 use crate::element::Element;
 use crate::element::Rule;
 use crate::kind;
-use text::bytes::Class;
-use text::bytes::run_end;
 use text::line::LineSpan;
+use text::marks::word_end;
 use text::word::begins_with;
 use text::word::is_word;
 
@@ -62,7 +61,7 @@ pub fn try_block(text: &[u8], line: LineSpan, to: usize) -> Rule
         return Rule::Fails;
     }
     let name = line.from + 8;
-    let name_end = run_end(text, name, line.to, Class::NonBlank);
+    let name_end = word_end(text, name, line.to);
     if name_end == name {
         return Rule::Fails;
     }

@@ -11,6 +11,7 @@ use crate::kind;
 use text::bytes::Class;
 use text::bytes::run_end;
 use text::line::LineSpan;
+use text::marks::word_end;
 use text::word::begins_with;
 
 // One past the last colon of a part, or the part's start where there is none.
@@ -36,7 +37,7 @@ pub fn try_keyword(text: &[u8], line: LineSpan, to: usize) -> Rule
     if !begins_with(text, line.from, line.to, b"#+") {
         return Rule::Fails;
     }
-    let run = run_end(text, line.from, line.to, Class::NonBlank);
+    let run = word_end(text, line.from, line.to);
     let marker = after_last_colon(text, line.from, run);
     if marker - line.from < 4 {
         return Rule::Fails;

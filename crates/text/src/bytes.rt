@@ -12,7 +12,6 @@ ghost use Rattle.text.specs.Spans.{passes};
 pub enum Class {
     Indent,
     Blank,
-    NonBlank,
     Star,
     Hyphen,
     Name,
@@ -45,7 +44,6 @@ pub fn is_of(b: u8, class: Class) -> bool
     match class {
         Class::Indent => b == 32 || b == 9,
         Class::Blank => b == 32 || b == 9 || b == 13,
-        Class::NonBlank => is_nonblank(b),
         Class::Star => b == b'*',
         Class::Hyphen => b == b'-',
         Class::Name => is_name(b),

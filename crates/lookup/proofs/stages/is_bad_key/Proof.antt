@@ -12,12 +12,12 @@ returns : tie.Need-returns
 returns c = sym (⊎-elim (λ w. isBadKey-empty _ (w .taken)) (λ w. isBadKey-long _ (ltb-true 64 _ (w .1 .taken))) (c .if1 .came))
 
 returns-2 : tie.Need-returns-2
-returns-2 c = sym (isBadKey-blank _ _ (c .before .run-end .ensures) (omega arith))
+returns-2 c = sym (isBadKey-blank _ _ (c .before .word-end .ensures) (omega arith))
 
 returns-3 : tie.Need-returns-3
 returns-3 c =
     let at-run = c .before .before in
-    sym (isBadKey-last _ _ (at-run .run-end .ensures) (omega arith) (ltb-false 64 _ (at-run .before .if2 .left)) (omega arith))
+    sym (isBadKey-last _ _ (at-run .word-end .ensures) (omega arith) (ltb-false 64 _ (at-run .before .if2 .left)) (omega arith))
 
 pub is-bad-key-spec : {M : Type 1} → statement M
 is-bad-key-spec =

@@ -30,20 +30,20 @@ returns-2 c =
 
 -- ---- a node property
 
-run-end-requires : tie.Need-run-end-requires
-run-end-requires c κs = let o = lineOf-order _ _ _ (c .before .before .pre) in (o .1, omega arith)
+word-end-requires : tie.Need-word-end-requires
+word-end-requires c κs = let o = lineOf-order _ _ _ (c .before .before .pre) in (o .1, omega arith)
 
-run-end-requires-2 : tie.Need-run-end-requires-2
-run-end-requires-2 c κs =
+run-end-requires : tie.Need-run-end-requires
+run-end-requires c κs =
     let line = c .before .before .before .pre in
     let o = lineOf-order _ _ _ line in
-    (firstRun-order _ _ _ line _ (c .run-end .ensures) .1, omega arith)
+    (firstRun-order _ _ _ line _ (c .word-end .ensures) .1, omega arith)
 
 returns-3 : tie.Need-returns-3
 returns-3 c =
     let at-rows = c .before .before in
-    rw (at-rows .if1 .left) (property-record _ _ _ _ (at-rows .before .before .pre) _ _ (c .before .run-end .ensures) (c .run-end2 .ensures))
+    rw (at-rows .if1 .left) (property-record _ _ _ _ (at-rows .before .before .pre) _ _ (c .before .word-end .ensures) (c .run-end .ensures))
 
 pub line-record-spec : {M : Type 1} → statement M
 line-record-spec =
-    tie.close (tie.spec (λ c. search needs) begins-with-requires returns returns-2 run-end-requires run-end-requires-2 returns-3)
+    tie.close (tie.spec (λ c. search needs) begins-with-requires returns returns-2 word-end-requires run-end-requires returns-3)

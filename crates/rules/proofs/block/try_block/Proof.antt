@@ -39,14 +39,14 @@ returns-2 : tie.Need-returns-2
 returns-2 c =
     let at-name = c .before in
     let at-begin = at-name .before .before in
-    block-unnamed _ _ _ (at-begin .before .before .before .before .pre) (begin at-begin) _ (at-name .run-end .ensures) (c .if2 .taken)
+    block-unnamed _ _ _ (at-begin .before .before .before .before .pre) (begin at-begin) _ (at-name .word-end .ensures) (c .if2 .taken)
 
 -- the name's end
-ends : (c : tie.After-run-end) → let args = c .before .before .before .before .before .before .args in
-    (args .line .from + 8 ≤ c .run-end .result) × (c .run-end .result ≤ args .line .to) × (args .line .to ≤ length (args .text .now))
+ends : (c : tie.After-word-end) → let args = c .before .before .before .before .before .before .args in
+    (args .line .from + 8 ≤ c .word-end .result) × (c .word-end .result ≤ args .line .to) × (args .line .to ≤ length (args .text .now))
 ends c =
     let at-begin = c .before .before in
-    name-order _ _ _ (at-begin .before .before .before .before .pre) (begin at-begin) _ (c .run-end .ensures)
+    name-order _ _ _ (at-begin .before .before .before .before .pre) (begin at-begin) _ (c .word-end .ensures)
 
 find-closer-requires : tie.Need-find-closer-requires
 unfolding word
@@ -55,7 +55,7 @@ find-closer-requires c κs =
     let at-begin = at-name .before .before in
     let start = at-begin .before .before .before .before in
     let o = lineOf-order _ _ _ (start .pre) in
-    (o .4, o .5, rw (part-slice _ _ _ (ends at-name .0)) (closer-bytes _ _ _ (start .pre) (begin at-begin) _ (at-name .run-end .ensures)))
+    (o .4, o .5, rw (part-slice _ _ _ (ends at-name .0)) (closer-bytes _ _ _ (start .pre) (begin at-begin) _ (at-name .word-end .ensures)))
 
 -- the closer of the name
 closer : (c : tie.After-find-closer) →
@@ -63,7 +63,7 @@ closer : (c : tie.After-find-closer) →
     let args = at-name .before .before .before .before .before .before .args in
     let s = args .text .now in
     let ls = linesIn s (args .line .end) (args .to) in
-    c .find-closer .result ≡ closerAt (args .line .end) ls (linesBefore (word "#+end_" ++ part s (args .line .from + 8) (at-name .run-end .result)) ls)
+    c .find-closer .result ≡ closerAt (args .line .end) ls (linesBefore (word "#+end_" ++ part s (args .line .from + 8) (at-name .word-end .result)) ls)
 unfolding word
 closer c = rw (part-slice _ _ _ (ends (c .before .before .before .before) .0)) at (c .find-closer .ensures)
 
@@ -73,7 +73,7 @@ returns-3 c =
     let at-test = at-closer .before .before .before in
     let at-name = at-test .before in
     let at-begin = at-name .before .before in
-    block-open _ _ _ (at-begin .before .before .before .before .pre) (begin at-begin) _ (at-name .run-end .ensures) (at-test .if2 .left) _
+    block-open _ _ _ (at-begin .before .before .before .before .pre) (begin at-begin) _ (at-name .word-end .ensures) (at-test .if2 .left) _
     (closer at-closer) (c .enum-told .given .1)
 
 returns-4 : tie.Need-returns-4
@@ -84,7 +84,7 @@ returns-4 c =
     let at-test = at-closer .before .before .before in
     let at-name = at-test .before in
     let at-begin = at-name .before .before in
-    block-verbatim _ _ _ (at-begin .before .before .before .before .pre) (begin at-begin) _ (at-name .run-end .ensures) (at-test .if2 .left) _
+    block-verbatim _ _ _ (at-begin .before .before .before .before .pre) (begin at-begin) _ (at-name .word-end .ensures) (at-test .if2 .left) _
     (sym (at-close .close .given .1) ∙ closer at-closer) _ (at-detail .verbatim-detail .ensures) (c .if3 .taken)
 
 returns-5 : tie.Need-returns-5
@@ -95,7 +95,7 @@ returns-5 c =
     let at-test = at-closer .before .before .before in
     let at-name = at-test .before in
     let at-begin = at-name .before .before in
-    block-greater _ _ _ (at-begin .before .before .before .before .pre) (begin at-begin) _ (at-name .run-end .ensures) (at-test .if2 .left) _
+    block-greater _ _ _ (at-begin .before .before .before .before .pre) (begin at-begin) _ (at-name .word-end .ensures) (at-test .if2 .left) _
     (sym (at-close .close .given .1) ∙ closer at-closer) _ (at-detail .verbatim-detail .ensures) (c .before .if3 .left) _ (c .greater-detail .ensures)
 
 pub try-block-spec : {M : Type 1} → statement M

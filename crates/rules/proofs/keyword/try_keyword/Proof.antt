@@ -18,28 +18,28 @@ returns : tie.Need-returns
 unfolding word
 returns c = keyword-other _ _ _ (c .before .before .before .before .pre) (sym (c .before .begins-with .ensures) ∙ not-true _ (c .if1 .taken))
 
-run-end-requires : tie.Need-run-end-requires
-run-end-requires c κs = let o = lineOf-order _ _ _ (c .before .before .before .before .pre) in omega arith
+word-end-requires : tie.Need-word-end-requires
+word-end-requires c κs = let o = lineOf-order _ _ _ (c .before .before .before .before .pre) in omega arith
 
 after-last-colon-requires : tie.Need-after-last-colon-requires
 after-last-colon-requires c κs =
-    let o = firstRun-order _ _ _ (c .before .before .before .before .before .pre) _ (c .run-end .ensures) in
+    let o = firstRun-order _ _ _ (c .before .before .before .before .before .pre) _ (c .word-end .ensures) in
     omega arith
 
 returns-2 : tie.Need-returns-2
 returns-2 c =
     let at-marker = c .before .before in
     let at-run = at-marker .before in
-    keyword-short _ _ _ (at-run .before .before .before .before .before .pre) _ (at-run .run-end .ensures)
+    keyword-short _ _ _ (at-run .before .before .before .before .before .pre) _ (at-run .word-end .ensures)
     _ (at-marker .after-last-colon .ensures) (omega arith)
 
-run-end-requires-2 : tie.Need-run-end-requires-2
-run-end-requires-2 c κs =
+run-end-requires : tie.Need-run-end-requires
+run-end-requires c κs =
     let at-marker = c .before .before in
     let at-run = at-marker .before in
     let line = at-run .before .before .before .before .before .pre in
     let o = lineOf-order _ _ _ line in
-    (marker-to _ _ _ line _ (at-run .run-end .ensures) _ (at-marker .after-last-colon .ensures), omega arith)
+    (marker-to _ _ _ line _ (at-run .word-end .ensures) _ (at-marker .after-last-colon .ensures), omega arith)
 
 returns-3 : tie.Need-returns-3
 unfolding word
@@ -47,9 +47,9 @@ returns-3 c =
     let at-marker = c .before .before .before in
     let at-run = at-marker .before in
     let at-test = at-run .before in
-    keyword-yes _ _ _ (at-test .before .before .before .before .pre) _ (at-run .run-end .ensures)
+    keyword-yes _ _ _ (at-test .before .before .before .before .pre) _ (at-run .word-end .ensures)
     _ (at-marker .after-last-colon .ensures) (sym (at-test .before .begins-with .ensures) ∙ not-false _ (at-test .if1 .left))
-    (omega arith) _ (c .run-end2 .ensures)
+    (omega arith) _ (c .run-end .ensures)
 
 pub try-keyword-spec : {M : Type 1} → statement M
 try-keyword-spec =
@@ -58,9 +58,9 @@ try-keyword-spec =
     (λ c. search needs)
     begins-with-requires
     returns
-    run-end-requires
+    word-end-requires
     after-last-colon-requires
     (λ c. search needs)
     returns-2
-    run-end-requires-2
+    run-end-requires
     returns-3)

@@ -18,29 +18,29 @@ use Rattle.rules.proofs.Laws.Findings.{propertyOf-no, propertyOf-part}
 use Rattle.rules.proofs.property.property_at.Statement.{statement}
 use Rattle.rules.proofs.property.property_at.Tie as tie
 
-run-end-requires : tie.Need-run-end-requires
-run-end-requires c κs = let o = lineOf-order _ _ _ (c .before .pre) in (o .1, omega arith)
+word-end-requires : tie.Need-word-end-requires
+word-end-requires c κs = let o = lineOf-order _ _ _ (c .before .pre) in (o .1, omega arith)
 
 is-between-colons-requires : tie.Need-is-between-colons-requires
-is-between-colons-requires c κs = let o = firstRun-order _ _ _ (c .before .before .pre) _ (c .run-end .ensures) in (o .0, omega arith)
+is-between-colons-requires c κs = let o = firstRun-order _ _ _ (c .before .before .pre) _ (c .word-end .ensures) in (o .0, omega arith)
 
 returns : tie.Need-returns
 returns c =
     let at-run = c .before .before in
     sym (propertyOf-no _ _
-    (isNodeProperty-none _ _ _ (at-run .before .before .pre) _ (at-run .run-end .ensures)
+    (isNodeProperty-none _ _ _ (at-run .before .before .pre) _ (at-run .word-end .ensures)
     (sym (c .before .is-between-colons .ensures) ∙ not-true _ (c .if1 .taken))))
 
 -- the colons stand
 colons : (c : tie.Else1) → let at-run = c .before .before in
     let start = at-run .before .before in
-    not (isEmpty (betweenColons (part (start .args .text .now) (start .args .line .from) (at-run .run-end .result)))) ≡ true
+    not (isEmpty (betweenColons (part (start .args .text .now) (start .args .line .from) (at-run .word-end .result)))) ≡ true
 colons c = sym (c .before .is-between-colons .ensures) ∙ not-false _ (c .if1 .left)
 
 order : (c : tie.Else1) → let at-run = c .before .before in
     let start = at-run .before .before in
-    (3 ≤ at-run .run-end .result - start .args .line .from) × (at-run .run-end .result ≤ length (start .args .text .now))
-order c = let at-run = c .before .before in propertyName-order _ _ _ (at-run .before .before .pre) _ (at-run .run-end .ensures) (colons c)
+    (3 ≤ at-run .word-end .result - start .args .line .from) × (at-run .word-end .result ≤ length (start .args .text .now))
+order c = let at-run = c .before .before in propertyName-order _ _ _ (at-run .before .before .pre) _ (at-run .word-end .ensures) (colons c)
 
 -- the name ends at `name`
 named : (c : tie.Joined2) → let at-test = c .before .before in
@@ -54,12 +54,12 @@ named c =
     let at-run = at-test .before .before in
     let pre = at-run .before .before .pre in
     ⊎-elim
-    (λ w. rw (w .1) (propertyName-plus _ _ _ pre _ (at-run .run-end .ensures) (colons at-test) (w .0 .taken)))
-    (λ w. rw (w .1) (propertyName-whole _ _ _ pre _ (at-run .run-end .ensures) (colons at-test) (w .0 .left)))
+    (λ w. rw (w .1) (propertyName-plus _ _ _ pre _ (at-run .word-end .ensures) (colons at-test) (w .0 .taken)))
+    (λ w. rw (w .1) (propertyName-whole _ _ _ pre _ (at-run .word-end .ensures) (colons at-test) (w .0 .left)))
     (c .if2 .came)
 
 within : (c : tie.Joined2) → let at-run = c .before .before .before .before in
-    (c .if2 .name ≤ at-run .run-end .result) × (at-run .run-end .result ≤ length (at-run .before .before .args .text .now))
+    (c .if2 .name ≤ at-run .word-end .result) × (at-run .word-end .result ≤ length (at-run .before .before .args .text .now))
 within c = let o = order (c .before .before) in (⊎-elim (λ w. omega arith) (λ w. omega arith) (c .if2 .came), o .1)
 
 returns-2 : tie.Need-returns-2
@@ -81,13 +81,13 @@ returns-3 c =
     let n = named at-name in
     let o = within at-name in
     propertyOf-part _ _ _ _ _ pre (isNodeProperty-yes _ _ _ _ n (at-test .if3 .left) (omega arith) (eqb-false _ _ (c .if4 .left))) n
-    (firstRun-part _ _ _ pre _ (at-run .run-end .ensures)) (omega arith)
+    (firstRun-part _ _ _ pre _ (at-run .word-end .ensures)) (omega arith)
 
 pub property-at-spec : {M : Type 1} → statement M
 property-at-spec =
     tie.close
     (tie.spec
-    run-end-requires
+    word-end-requires
     is-between-colons-requires
     returns
     (λ c. omega (arith, order c))
