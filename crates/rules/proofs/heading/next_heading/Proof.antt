@@ -1,64 +1,53 @@
 -- `rules::heading::next_heading` meets its contract.
--- The invariant: the next heading line ahead of `at` is the one asked for. The measure is the bytes from `at` on.
+-- The invariant: the next heading line from `at` on is the one asked for. The measure is the bytes from `at` on.
 -- Assumes nothing.
-use mathlib.Core.Path.{_≡_, sym, _∙_}
-use Prim.Native.Nat.{_+_, _-_, _≤_, _<_}
+use mathlib.Core.Path.{_≡_, refl, sym, _∙_}
+use Prim.Native.Nat.{_-_, _≤_}
 use native.Mathlib.Omega.{arith}
+use borrow.Author.Tests.{leb-true, leb-false}
 use lib.ListN.{length}
 use Rattle.text.specs.Parts.{nextLine}
+use Rattle.text.proofs.Basics.{on}
+use Rattle.text.proofs.Laws.LinesIn.{nextLine-here}
 use Rattle.rules.specs.Headings.{isHeadingUpTo}
-use Rattle.rules.proofs.Laws.NextHeading.{ahead, ahead-start, ahead-step, ahead-here, ahead-end, ahead-find}
+use Rattle.rules.proofs.Laws.Headings.{upTo-here, upTo-none, upTo-over, nextLine-end}
+use Rattle.rules.proofs.Laws.NextHeading.{nextLine-star}
 use Rattle.rules.proofs.heading.next_heading.Statement.{statement}
 use Rattle.rules.proofs.heading.next_heading.Tie as tie
 
 abbrev Inv-loop : tie.InvT-loop
 Inv-loop text from most end at₀ at =
-    (end ≡ length text) × (from ≤ at) × (at ≤ length text) × (ahead (isHeadingUpTo most) text from at ≡ nextLine (isHeadingUpTo most) text from)
+    (at ≤ length text) × (nextLine (isHeadingUpTo most) text at ≡ nextLine (isHeadingUpTo most) text from)
 
 abbrev μ-loop : tie.MeasureT-loop
 μ-loop text from most end at₀ at = length text - at
 
-loop-holds : tie.Need-loop-holds Inv-loop μ-loop
-loop-holds c =
-    let a = c .before .before .args in
-    let found = ahead-find (a .most) (a .text .now) (a .from) (a .from) (c .find-far .result) (omega arith) (omega arith) (c .find-far .ensures) in
-    (omega arith, omega arith, found .0, sym (found .1) ∙ ahead-start (isHeadingUpTo (a .most)) (a .text .now) (a .from))
-
 returns : tie.Need-returns Inv-loop μ-loop
 returns c =
-    let at-loop = c .before .before .before in
-    sym (ahead-here _ _ _ _ (sym (c .before .is-heading-at .ensures) ∙ c .if1 .taken)) ∙ at-loop .loop .inv .3
-
--- the next star, after one at `at` that begins no heading line that is asked for
-next : (c : tie.After-find-far2 Inv-loop μ-loop) →
-    let at-loop = c .before .before .before .before in
-    let a = at-loop .before .before .before .args in
-    let f = isHeadingUpTo (a .most) in
-    (at-loop .loop .at < c .find-far2 .result) × (c .find-far2 .result ≤ length (a .text .now))
-    × (ahead f (a .text .now) (a .from) (at-loop .loop .at) ≡ ahead f (a .text .now) (a .from) (c .find-far2 .result))
-next c =
-    let at-loop = c .before .before .before .before in
-    let a = at-loop .before .before .before .args in
-    let at = at-loop .loop .at in
-    let found = ahead-find (a .most) (a .text .now) (a .from) (at + 1) (c .find-far2 .result) (omega arith) (omega arith) (c .find-far2 .ensures) in
-    let past =
-    ahead-step (isHeadingUpTo (a .most)) (a .text .now) (a .from) at (omega arith) (omega arith)
-    (sym (c .before .before .is-heading-at .ensures) ∙ c .before .if1 .left) in
-    (omega arith, found .0, past ∙ found .1)
+    let at-some = c .before in
+    let at-call = at-some .before in
+    let at-loop = at-call .before .before in
+    sym (nextLine-here _ _ _ (upTo-here _ _ _ (at-call .heading-stars .ensures) (at-some .if1 .taken) (leb-true _ _ (c .if2 .taken))))
+    ∙ at-loop .loop .inv .1
 
 loop-less : tie.Need-loop-less Inv-loop μ-loop
-loop-less c = let found = next c in omega arith
+loop-less c = let star = c .next-star-line .ensures in omega arith
 
 loop-again : tie.Need-loop-again Inv-loop μ-loop
 loop-again c =
-    let at-loop = c .before .before .before .before in
-    let found = next c in
-    (omega arith, omega arith, found .1, sym (found .2) ∙ at-loop .loop .inv .3)
+    let at-call = c .before .before in
+    let at-loop = at-call .before .before in
+    let star = c .next-star-line .ensures in
+    let other =
+    on (c .before .if1 .came)
+    (λ w. upTo-over _ _ _ (at-call .heading-stars .ensures) (leb-false _ _ (w .1 .left)))
+    (λ w. upTo-none _ _ _ (at-call .heading-stars .ensures) (w .left)) in
+    (star .to, sym (nextLine-star _ _ _ _ other star) ∙ at-loop .loop .inv .1)
 
 returns-2 : tie.Need-returns-2 Inv-loop μ-loop
 returns-2 c =
     let at-loop = c .before in
-    sym (ahead-end _ _ _ _ (at-loop .loop .inv .2) (omega arith)) ∙ at-loop .loop .inv .3
+    sym (nextLine-end _ _ _ (at-loop .loop .inv .0) (omega arith)) ∙ at-loop .loop .inv .1
 
 pub next-heading-spec : {M : Type 1} → statement M
 next-heading-spec =
@@ -66,8 +55,7 @@ next-heading-spec =
     (tie.spec
     Inv-loop
     μ-loop
-    (λ c κs. omega arith)
-    loop-holds
+    (λ c. (omega arith, refl))
     (λ c κs. omega arith)
     returns
     (λ c. omega arith)
