@@ -29,6 +29,7 @@ pub fn passes() -> bool {
     let [book, prose] = texts::ordinary(BOOK_SIZE);
     let mut held = vec![
         ratio_held(&book, BOOK_LIMIT),
+        ratio_held(&texts::shipped(), BOOK_LIMIT),
         ratio_held(&prose, PROSE_LIMIT),
     ];
     held.extend(texts::hostile(HOSTILE_SIZE).iter().map(time_held));

@@ -30,6 +30,16 @@ fn deep_texts() {
     assert_eq!(read_on_a_small_stack(nested(2500)), Err(Refusal::TooDeep));
 }
 
+/// The store of the reading call is full before the deepest nesting comes.
+#[test]
+fn deep_after_many_records() {
+    let mut text = b"* a\n:properties:\n:a: b\n:end:\n".repeat(1000);
+    text.extend(nested(DEPTH_LIMIT));
+    assert_eq!(read_on_a_small_stack(text.clone()), Ok(1 + 4000 + DEPTH_LIMIT));
+    text.extend(nested(DEPTH_LIMIT + 1));
+    assert_eq!(read_on_a_small_stack(text), Err(Refusal::TooDeep));
+}
+
 #[test]
 fn long_texts() {
     assert_eq!(read_on_a_small_stack(filled("* ")), Ok(2));

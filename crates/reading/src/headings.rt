@@ -1,8 +1,11 @@
 ghost use mathlib.Core.Path.{_≡_};
-ghost use mathlib.Core.List.{[]};
-ghost use Prim.Native.Nat.{_+_, _*_, _≤_};
+ghost use Prim.Native.Nat.{ℕ, _+_, _*_, _≤_, _<_};
 ghost use lib.ListN.{length};
-ghost use Rattle.reading.specs.Walk.{state, absorbed, headingsFrom, readingEntries, parentIn, Small, HeadingLine, HeadingOrEnd};
+ghost use Rattle.text.specs.Parts.{nextLine};
+ghost use Rattle.rules.specs.Headings.{isHeading};
+ghost use Rattle.reading.specs.Walk.{state, absorbed, openingEntries, headingEntry, headingsFrom, readingEntries, Small, HeadingLine, HeadingOrEnd};
+ghost use Rattle.reading.specs.Tracked.{parentIn, Earlier, lastIndex, Tracked};
+ghost use Rattle.reading.specs.Sections.{lineAt};
 ghost use Rattle.reading.specs.Makers.{headingRecord};
 use crate::record::Record;
 use crate::sink::Sink;
@@ -79,39 +82,59 @@ fn unwritten() -> Record
     }
 }
 
-// The headings from a heading line on, each followed by its section.
-fn read_headings(text: &[u8], from: usize, table: &mut [u32], sink: Sink) -> Sink
-    requires { ⌜ HeadingOrEnd (now text) from × (sink .count ≤ 2 * from + 2) ⌝ }
-    ensures { λ r. ⌜ state (now (table .exit)) r ≡ absorbed (state (now (table .entry)) sink) (headingsFrom (now (text .entry)) [] from (sink .count)) ⌝ }
-    ensures { λ r. ⌜ r .count ≤ 200000 ⌝ }
+// Where the next heading line starts, or the text's end, and the sink there.
+pub struct Turn {
+    pub next: usize,
+    pub sink: Sink,
+}
+
+// The heading at a heading line and its section. `last` is the heading before it.
+pub fn read_heading(text: &[u8], at: usize, last: usize, table: &mut [u32], sink: Sink) -> Turn
+    requires { ⌜ HeadingOrEnd (now text) at × (at < length (now text)) × (last ≤ 200000) × (sink .count ≤ 2 * at + 2) ⌝ }
+    ensures { λ r. ⌜ (at < r .next) × (r .next ≡ nextLine isHeading (now (text .entry)) (at + length (lineAt (now (text .entry)) at))) × (r .sink .count ≤ 2 * r .next + 2) ⌝ }
+    ensures { λ r. ⌜ ((hs : Earlier) → last ≡ lastIndex hs → Tracked (state (now (table .entry)) sink) hs → state (now (table .exit)) (r .sink) ≡ absorbed (state (now (table .entry)) sink) (headingEntry (now (text .entry)) hs at (sink .count))) ⌝ }
+{
+    let end = text.len();
+    let stars = heading_stars(text, at, end);
+    let inner = line_end(text, at, end);
+    let next = next_heading(text, inner, end);
+    let index = sink.count;
+    let r = if sink.writing {
+        heading_record(text, table, at, inner, next, stars, last)
+    } else {
+        unwritten()
+    };
+    let kept = emit(table, sink, r, 0);
+    Turn {
+        next: next,
+        sink: read_section(text, inner, next, Place::AfterHeading, index, table, kept),
+    }
+}
+
+// The headings from a heading line on. `before` is the heading before them.
+pub fn read_headings(text: &[u8], from: usize, before: usize, table: &mut [u32], sink: Sink) -> Sink
+    requires { ⌜ HeadingOrEnd (now text) from × (before ≤ 200000) × (sink .count ≤ 2 * from + 2) ⌝ }
+    ensures { λ r. ⌜ ((hs : Earlier) → before ≡ lastIndex hs → Tracked (state (now (table .entry)) sink) hs → state (now (table .exit)) r ≡ absorbed (state (now (table .entry)) sink) (headingsFrom (now (text .entry)) hs from (sink .count))) ⌝ }
 {
     let end = text.len();
     let mut at = from;
-    let mut last = 0;
+    let mut last = before;
     let mut kept = sink;
     while at < end {
-        let stars = heading_stars(text, at, end);
-        let inner = line_end(text, at, end);
-        let next = next_heading(text, inner, end);
         let index = kept.count;
-        let r = if kept.writing {
-            heading_record(text, table, at, inner, next, stars, last)
-        } else {
-            unwritten()
-        };
-        kept = emit(table, kept, r, 0);
-        kept = read_section(text, inner, next, Place::AfterHeading, index, table, kept);
+        let turn = read_heading(text, at, last, table, kept);
+        kept = turn.sink;
         last = index;
-        at = next;
+        at = turn.next;
     }
     kept
 }
 
-// The whole text: the document, the zeroth section, the headings.
-pub fn walk(text: &[u8], table: &mut [u32], sink: Sink) -> Sink
+// The document and the zeroth section.
+pub fn read_opening(text: &[u8], table: &mut [u32], sink: Sink) -> Turn
     requires { ⌜ (length (now text) ≤ 65536) × (sink .count ≡ 0) ⌝ }
-    ensures { λ r. ⌜ state (now (table .exit)) r ≡ absorbed (state (now (table .entry)) sink) (readingEntries (now (text .entry))) ⌝ }
-    ensures { λ r. ⌜ r .count ≤ 200000 ⌝ }
+    ensures { λ r. ⌜ (r .next ≡ nextLine isHeading (now (text .entry)) 0) × (r .sink .count ≤ 2 * r .next + 2) ⌝ }
+    ensures { λ r. ⌜ state (now (table .exit)) (r .sink) ≡ absorbed (state (now (table .entry)) sink) (openingEntries (now (text .entry))) ⌝ }
 {
     let end = text.len();
     let r = Record {
@@ -125,6 +148,17 @@ pub fn walk(text: &[u8], table: &mut [u32], sink: Sink) -> Sink
     };
     let kept = emit(table, sink, r, 0);
     let first = next_heading(text, 0, end);
-    let kept = read_section(text, 0, first, Place::Opening, 0, table, kept);
-    read_headings(text, first, table, kept)
+    Turn {
+        next: first,
+        sink: read_section(text, 0, first, Place::Opening, 0, table, kept),
+    }
+}
+
+// The whole text.
+pub fn walk(text: &[u8], table: &mut [u32], sink: Sink) -> Sink
+    requires { ⌜ (length (now text) ≤ 65536) × (sink .count ≡ 0) ⌝ }
+    ensures { λ r. ⌜ state (now (table .exit)) r ≡ absorbed (state (now (table .entry)) sink) (readingEntries (now (text .entry))) ⌝ }
+{
+    let turn = read_opening(text, table, sink);
+    read_headings(text, turn.next, 0, table, turn.sink)
 }

@@ -1,25 +1,21 @@
 ghost use Rattle.reading.specs.Promises.{Settled};
 use crate::answer::Answer;
-use crate::headings::walk;
-use crate::sink::Sink;
+use crate::kept::copy;
+use crate::kept::keep;
+use crate::kept::read_on;
 
 // Reads a text into a lent table, seven numbers a record. Tries in turn: the text is over 65,536 bytes; a drawer or greater block lies at
-// depth 33 or more; the table has too little room. A refusal leaves the table as it was. Counted first, then written.
+// depth 33 or more; the table has too little room. A refusal leaves the table as it was: all is counted before anything is written. The count
+// keeps the first records, 1,650 at most, so that the parts of the text that they come from are not read again to write them.
 pub fn read(text: &[u8], table: &mut [u32]) -> Answer
     ensures { λ r. ⌜ Settled (now (text .entry)) (now (table .entry)) r (now (table .exit)) ⌝ }
 {
     if 65536 < text.len() {
         return Answer::TooLong;
     }
-    let counted = walk(
-        text,
-        table,
-        Sink {
-            count: 0,
-            writing: false,
-            stopped: false,
-        },
-    );
+    let mut store = [0u32; 11550];
+    let kept = keep(text, &mut store);
+    let counted = read_on(text, kept, table, false);
     if counted.stopped {
         return Answer::TooDeep;
     }
@@ -27,14 +23,7 @@ pub fn read(text: &[u8], table: &mut [u32]) -> Answer
     if table.len() / 7 < count {
         return Answer::NoRoom(count);
     }
-    walk(
-        text,
-        table,
-        Sink {
-            count: 0,
-            writing: true,
-            stopped: false,
-        },
-    );
+    copy(&store, kept.count * 7, table);
+    read_on(text, kept, table, true);
     Answer::Done(count)
 }

@@ -9,7 +9,7 @@ ghost use Rattle.rules.specs.Findings.{LineOf, NoEnd};
 ghost use Rattle.reading.specs.Makers.{childRecord};
 ghost use Rattle.reading.specs.Nesting.{depthIn};
 ghost use Rattle.reading.specs.Walk.{state, absorbed, entriesFrom, elementsTo, linesTo, sectionOf, sectionEntries};
-ghost use Rattle.reading.specs.Walk.{Range, ElementIn, recordOf, withHeld, nextPlace, firstPlace};
+ghost use Rattle.reading.specs.Walk.{Range, ElementIn, StepAt, recordOf, withHeld, nextPlace, firstPlace};
 use crate::record::Record;
 use crate::sink::Sink;
 use crate::sink::emit;
@@ -141,7 +141,32 @@ fn ends_after(text: &[u8], line: LineSpan, to: usize, before: bool, kind: usize)
     may_end(text, line, to, before)
 }
 
-// The elements of a range, with all that they hold.
+// An element, where the next one starts, its place, and whether an `:END:` line may still follow.
+pub struct Step {
+    pub e: Element,
+    pub end: usize,
+    pub place: Place,
+    pub ends: bool,
+}
+
+// The element at a line of a range, and how to go on after it.
+fn next_element(text: &[u8], at: usize, to: usize, place: Place, ends: bool) -> Step
+    requires { ⌜ Range (now text) at to × (at < to) × (place ≡ placeAt (now text) at) × (ends ≡ false → NoEnd (now text) at to) ⌝ }
+    ensures { λ r. ⌜ StepAt (now (text .entry)) at to r ⌝ }
+{
+    let line = line_at(text, at, to);
+    let e = element_at(text, line, to, place, ends);
+    let end = first_line(text, e.end, to);
+    Step {
+        e: e,
+        end: end,
+        place: next_place(place, e.kind, end == e.end),
+        ends: ends_after(text, line, to, ends, e.kind),
+    }
+}
+
+// The elements of a range, with all that they hold. Each is found by a call of its own, so that this function, which calls itself by way of
+// `read_element`, keeps little on the stack.
 fn read_elements(
     text: &[u8],
     from: usize,
@@ -156,20 +181,21 @@ fn read_elements(
     ensures { λ r. ⌜ state (now (table .exit)) r ≡ absorbed (state (now (table .entry)) sink) (entriesFrom (now (text .entry)) (elementsTo to) parent depth from (sink .count)) ⌝ }
     ensures { λ r. ⌜ r .count + 2 * from ≤ sink .count + 2 * to ⌝ }
 {
-    let mut at = from;
-    let mut here = place;
-    let mut ends = true;
-    let mut kept = sink;
-    while at < to {
-        let line = line_at(text, at, to);
-        let e = element_at(text, line, to, here, ends);
-        let end = first_line(text, e.end, to);
-        ends = ends_after(text, line, to, ends, e.kind);
-        here = next_place(here, e.kind, end == e.end);
-        kept = read_element(text, at, end, e, depth, parent, table, kept);
-        at = end;
+    if to <= from {
+        return sink;
     }
-    kept
+    let mut at = from;
+    let mut kept = sink;
+    let mut step = next_element(text, from, to, place, true);
+    loop {
+        kept = read_element(text, at, step.end, step.e, depth, parent, table, kept);
+        if to <= step.end {
+            return kept;
+        }
+        at = step.end;
+        let here = step.place;
+        step = next_element(text, at, to, here, step.ends);
+    }
 }
 
 // One element from `at` to `end`, with all that it holds.
@@ -203,13 +229,10 @@ fn read_element(
     if kept.stopped {
         return kept;
     }
-    if kind == kind::TABLE {
+    let rows = kind == kind::TABLE;
+    if rows || kind == kind::PROPERTY_DRAWER {
         let first = first_line(text, e.from, e.to);
-        return read_lines(text, first, e.to, true, e.lines, inner, index, table, kept);
-    }
-    if kind == kind::PROPERTY_DRAWER {
-        let first = first_line(text, e.from, e.to);
-        return read_lines(text, first, e.to, false, e.lines, inner, index, table, kept);
+        return read_lines(text, first, e.to, rows, e.lines, inner, index, table, kept);
     }
     if inner <= depth {
         return kept;

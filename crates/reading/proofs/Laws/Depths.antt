@@ -19,12 +19,10 @@ use Rattle.reading.specs.Makers.{documentRecord, headingRecord, sectionR
 use Rattle.reading.specs.Nesting.{countsDepth, depthIn, depths, greatest, nesting}
 use Rattle.reading.specs.Reading.{nearest, reading}
 use Rattle.reading.specs.Walk.{Entry, entry, entries, entriesFrom, sectionEntries, headingEntries, headingsFrom, readingEntries}
+use Rattle.reading.specs.Walk.{recordsOf, depthsOf}
 use Rattle.reading.proofs.Laws.Fits.{childRecord-parent}
-use Rattle.reading.proofs.Laws.Entries.{recordsOf, reading-records}
+use Rattle.reading.proofs.Laws.Entries.{reading-records}
 use Rattle.reading.proofs.Laws.EntriesStep.{only, heldBy, stepBy}
-
-abbrev pub depthsOf : List Entry → List ℕ
-depthsOf es = map (λ (e : Entry). e .depth) es
 
 -- after records of depths ds, the table gives the records of these entries their depths
 abbrev Gives : List ℕ → List Entry → Type 0

@@ -16,13 +16,10 @@ use Rattle.reading.specs.Sections.{lineAt, sectionEnd}
 use Rattle.reading.specs.Makers.{documentRecord, headingRecord, sectionRecord, childRecord}
 use Rattle.reading.specs.Nesting.{depthIn}
 use Rattle.reading.specs.Reading.{contents, section, nearest, headings, reading}
-use Rattle.reading.specs.Walk.{Entry, entry, entries, entriesFrom, sectionEntries, headingEntries, headingsFrom, readingEntries}
+use Rattle.reading.specs.Walk.{Entry, entry, entries, entriesFrom, sectionEntries, headingEntries, headingsFrom, readingEntries, recordsOf}
 use Rattle.reading.proofs.Laws.Fits.{sectionRecord-text, sectionRecord-left, headingRecord-from}
 use Rattle.reading.proofs.Laws.EntriesStep.{only, heldBy, stepBy, entries-enough}
 use Rattle.reading.proofs.Laws.HeadingsStep.{headingEntries-enough}
-
-abbrev pub recordsOf : List Entry → List Record
-recordsOf es = map (λ (e : Entry). e .rec) es
 
 -- under a test
 recordsOf-only : (b : Bool) (x : List Entry) {y : List Record} → (b ≡ true → recordsOf x ≡ y) → recordsOf (only b x) ≡ only b y

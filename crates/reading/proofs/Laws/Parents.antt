@@ -9,7 +9,7 @@ use native.Mathlib.Omega.{arith}
 use lib.ListN.{length, getD}
 use borrow.Author.Tests.{lt-ltb, le-ltb}
 use Rattle.reading.specs.Reading.{nearest}
-use Rattle.reading.specs.Walk.{climb, parentIn}
+use Rattle.reading.specs.Tracked.{climb, parentIn, Earlier, lastIndex, Link, Linked, linked-nil, linked-zero, linked-more}
 use Rattle.reading.proofs.Basics.{split}
 
 -- ---- from row j up
@@ -103,10 +103,7 @@ module _ (t : List ℕ) (m : ℕ) where
     unfolding parentIn
     parent-step h k l = climb-step j t m j h k l ∙ climb-fuel t m j (suc (above t j)) (above t j) l (omega arith)
 
--- ---- earlier headings by index and stars, the nearest first
-
-abbrev pub Earlier : Type 0
-Earlier = List (ℕ × ℕ)
+-- ---- the nearest of the earlier headings
 
 module _ (x k m : ℕ) (hs : Earlier) where
   nearest-here : m < x → nearest x ((k, m) ∷ hs) ≡ k
@@ -116,24 +113,6 @@ module _ (x k m : ℕ) (hs : Earlier) where
   nearest-skip : x ≤ m → nearest x ((k, m) ∷ hs) ≡ nearest x hs
   unfolding nearest
   nearest-skip h = rw (le-ltb m x h, nearest)
-
--- the nearest one's index; 0 where there is none
-abbrev pub lastIndex : Earlier → ℕ
-lastIndex [] = 0
-lastIndex (h ∷ hs) = h .0
-
--- a heading of index k with m stars is row k of the table, after the rows of the headings before it
-pub record Link (t : List ℕ) (k m : ℕ) (hs : Earlier) : Type 0 where
-  pub after : lastIndex hs < k
-  pub room : k * 7 + 7 ≤ length t
-  pub stars : getD t (k * 7 + 6) 0 ≡ m
-  pub parent : getD t (k * 7 + 5) 0 ≡ nearest m hs
-
--- each of them; one of index 0 is not told from none
-pub data Linked (t : List ℕ) : Earlier → Type 0 where
-  linked-nil : Linked t []
-  linked-zero : {m : ℕ} → Linked t ((0, m) ∷ [])
-  linked-more : {k m : ℕ} {hs : Earlier} → Link t k m hs → Linked t hs → Linked t ((k, m) ∷ hs)
 
 nearest-zero : (x m : ℕ) → nearest x ((0, m) ∷ []) ≡ 0
 unfolding nearest
@@ -171,14 +150,14 @@ module _ {t : List ℕ} (y : ℕ) where
   linked-parent (linked-more l ls) = link-parent l ls (linked-up ls)
 
 -- a table that is the same up to place n, where its rows end
-pub linked-kept : {t : List ℕ} (t′ : List ℕ) {hs : Earlier} (n : ℕ) → ((i : ℕ) → i < n → getD t′ i 0 ≡ getD t i 0) → length t ≤ length t′
+pub linked-kept : {t : List ℕ} (t′ : List ℕ) {hs : Earlier} (n : ℕ) → ((i : ℕ) → i < n → getD t′ i 0 ≡ getD t i 0) → n ≤ length t′
     → lastIndex hs * 7 + 7 ≤ n → Linked t hs → Linked t′ hs
 linked-kept t′ n same h b linked-nil = linked-nil
 linked-kept t′ n same h b linked-zero = linked-zero
 linked-kept t′ n same h b (linked-more {k} l ls) =
     linked-more (record {
       after = l .after;
-      room = omega (arith, l .room);
+      room = omega arith;
       stars = same (k * 7 + 6) (omega arith) ∙ l .stars;
       parent = same (k * 7 + 5) (omega arith) ∙ l .parent;
     }) (linked-kept t′ n same h (omega (arith, l .after)) ls)

@@ -2,7 +2,7 @@
 -- heading line is at the place after a heading, and the record that the walk makes at a heading line is the heading's.
 -- From Ranges and NextPlaces.
 -- Assumes nothing.
-use mathlib.Core.Path.{_≡_, sym, ap, _∙_}
+use mathlib.Core.Path.{_≡_, refl, sym, ap, _∙_}
 use mathlib.Core.List.{List, []}
 use Prim.Native.Nat.{ℕ, _+_, _≤_, _<_}
 use native.Mathlib.Omega.{arith}
@@ -122,3 +122,7 @@ headingLine-order {s} {p} {i} {e} {m} l =
       section-end s i e (l .here .limit) start (l .next),
       heading-stars-le s p (l .here) (l .some) m (l .stars),
     )
+
+-- after the heading line at byte p comes a heading line, or the text's end
+pub heading-after : (s : List ℕ) (p : ℕ) → HeadingOrEnd s p → p < length s → HeadingOrEnd s (nextLine isHeading s (p + length (lineAt s p)))
+heading-after s p here some = next-heading s _ (here .limit) (heading-start s p here some _ refl)

@@ -1,6 +1,6 @@
 -- The promise of a reading call, by what its two passes over the text leave.
 -- Counting leaves the table, and stops where a record is deep, else it comes to the number of records; writing is then one run of stores from
--- the table's front. From Absorb. Assumes nothing.
+-- the table's front. From Absorb and Passes. Assumes nothing.
 use mathlib.Core.Path.{_≡_, refl, sym, ap, _∙_}
 use mathlib.Core.Logic.{_⊎_, inl, inr, ⊎-elim}
 use mathlib.Core.Bool.{true, false, true≢false}
@@ -21,12 +21,13 @@ use Rattle.reading.specs.Records.{numbers, numbersOf}
 use Rattle.reading.specs.Reading.{reading}
 use Rattle.reading.specs.Nesting.{greatest, nesting}
 use Rattle.reading.specs.Answers.{room, answerFor, answer, leaves}
-use Rattle.reading.specs.Walk.{Entry, State, state, sinkOf, absorbed, readingEntries}
+use Rattle.reading.specs.Walk.{Entry, recordsOf, depthsOf, State, state, sinkOf, absorbed, readingEntries}
 use Rattle.reading.specs.Promises.{Settled}
-use Rattle.reading.proofs.Laws.Absorb.{absorb-deep, absorb-put, absorb-count, absorbed-cons, absorbed-stuck}
+use Rattle.reading.proofs.Laws.Absorb.{absorb-deep, absorb-count, absorbed-cons, absorbed-stuck}
+use Rattle.reading.proofs.Laws.Passes.{absorbed-writes, numbers-length}
 use Rattle.reading.proofs.Promises.{one-reading}
-use Rattle.reading.proofs.Laws.Entries.{recordsOf, reading-records}
-use Rattle.reading.proofs.Laws.Depths.{depthsOf, reading-nesting}
+use Rattle.reading.proofs.Laws.Entries.{reading-records}
+use Rattle.reading.proofs.Laws.Depths.{reading-nesting}
 
 -- ---- answers
 
@@ -69,22 +70,6 @@ absorbed-counting t n (e ∷ es) = cases (leb 33 (e .depth))
       table = more .table;
       outcome = ⊎-elim (λ h. inl (omega arith, h .1)) (λ h. inr (omega arith, h .1, omega arith)) (more .outcome);
     }))
-
--- writing with room is one run of stores
-absorbed-writing : (t : List ℕ) (n : ℕ) (es : List Entry) → greatest (depthsOf es) ≤ 32 → n * 7 + length es * 7 ≤ length t
-    → absorbed (state t (sinkOf n true false)) es .tab ≡ sets t (n * 7) (numbers (recordsOf es))
-unfolding absorbed greatest numbers
-absorbed-writing t n [] d h = refl
-absorbed-writing t n (e ∷ es) d h =
-    let next : (n + 1) * 7 ≡ suc (suc (suc (suc (suc (suc (suc (n * 7))))))) = omega arith in
-    let t′ = sets t (n * 7) (numbersOf (e .rec)) in
-    rw (absorbed-cons _ e es (absorb-put t (sinkOf n true false) (e .rec) (e .depth) refl (omega arith) refl (omega arith)))
-    (absorbed-writing t′ (n + 1) es (omega arith) (omega (arith, length-sets t (n * 7) (numbersOf (e .rec)))) ∙ rw next)
-
-numbers-length : (R : List Record) → length (numbers R) ≡ 7 * length R
-unfolding numbers
-numbers-length [] = refl
-numbers-length (r ∷ R) = omega (arith, numbers-length R)
 
 -- from the front, and the rest as before
 sets-front : (t : List ℕ) (R : List Record) → 7 * length R ≤ length t → sets t 0 (numbers R) ≡ numbers R ++ drop (7 * length R) t
@@ -138,7 +123,7 @@ module _ (s t t′ : List ℕ) (k : Sink) (l : length s ≤ 65536) (e : state t�
       let same = counted .table in
       let fits : length (reading s) ≤ length t / 7 = omega (arith, ap length same) in
       let written = ap (λ (st : State). st .tab) (rw same at g)
-      ∙ absorbed-writing t 0 (readingEntries s) (omega (arith, reading-nesting s)) (omega (arith, entries-length s)) in
+      ∙ ap (λ (st : State). st .tab) (absorbed-writes t 0 (readingEntries s) (omega (arith, reading-nesting s)) (omega (arith, entries-length s))) in
       rw (fine .1)
       (settled s t (Done (length (reading s))) t″ (answerFor-done s (reading s) t l (fine .0) fits)
       (rw (reading-records s) at written ∙ sets-front t (reading s) (omega arith)))
