@@ -1,6 +1,5 @@
 -- `reading::kept::read_on` meets its contract: where nothing is kept, by the whole walk; else by the headings that are left.
 -- Assumes nothing.
-use mathlib.Core.Path.{_≡_, sym, _∙_}
 use native.Mathlib.Omega.{arith}
 use borrow.Author.Needs.{needs}
 use Rattle.reading.proofs.kept.read_on.Statement.{statement}

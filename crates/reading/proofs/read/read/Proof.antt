@@ -1,9 +1,7 @@
 -- `reading::read::read` meets its contract: each answer by what the counting pass left, and success by what the kept records and the writing pass
 -- left too.
 -- Assumes nothing.
-use Prim.Native.Nat.{_*_, _≤_}
 use native.Mathlib.Omega.{arith}
-use lib.ListN.{length}
 use borrow.Author.Needs.{needs}
 use Rattle.reading.proofs.Laws.Kept.{kept-room, kept-goes, kept-counted, kept-fewer, kept-written}
 use Rattle.reading.proofs.Laws.Settled.{settled-long, settled-deep, settled-short, settled-done}
@@ -45,7 +43,7 @@ module _ (c : tie.After-copy-arg) where
 copy-requires : tie.Need-copy-requires
 copy-requires c κs =
     let may = at-keep c .keep .ensures in
-    (kept-room _ _ _ may, omega (arith, kept-fewer _ _ _ may _ (at-count c .read-on .ensures), at-room c .if3 .left))
+    (omega (arith, kept-room _ _ _ may), omega (arith, kept-fewer _ _ _ may _ (at-count c .read-on .ensures), at-room c .if3 .left))
 
 read-on-requires-2 : tie.Need-read-on-requires-2
 read-on-requires-2 c κs = (omega arith, kept-goes _ _ _ (at-keep (c .before .before .before .before) .keep .ensures))

@@ -9,10 +9,6 @@ use borrow.Author.Needs.{needs}
 use Rattle.reading.proofs.Laws.Absorb.{absorb-stop, absorb-deep, absorb-full, absorb-put, absorb-count}
 use Rattle.reading.proofs.sink.emit.Statement.{statement}
 use Rattle.reading.proofs.sink.emit.Tie as tie
-use Rattle.reading.proofs.sink.emit.Reads as reads
-use Rattle.reading.proofs.sink.emit.Lts as lts
-use Rattle.reading.proofs.sink.put.Reads as put-reads
-use Rattle.reading.proofs.sink.stop.Reads as stop-reads
 
 returns : tie.Need-returns
 returns c = (sym (absorb-stop _ _ (c .if1 .taken)), (omega arith, λ h. absurd (true≢false (sym (c .if1 .taken) ∙ h))))

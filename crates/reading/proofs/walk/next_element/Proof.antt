@@ -2,7 +2,6 @@
 -- is a range too. From Ranges.
 -- Assumes nothing.
 use mathlib.Core.Path.{_≡_, sym, _∙_}
-use native.Mathlib.Omega.{arith}
 use borrow.Author.Needs.{needs}
 use Rattle.rules.proofs.Laws.LineOf.{lineOf, lineSpan-start, lineSpan-end}
 use Rattle.reading.proofs.Laws.Ranges.{firstElement, element-is, element-end, element-in, range-rest, range-place, no-end-rest}
