@@ -1,4 +1,4 @@
 pub mod Stages
 pub mod Lookup
 pub mod Promises
-pub mod Samples
+pub mod Pinned

@@ -46,6 +46,7 @@ pub fn lookup(text: &[u8], at: usize, key: &[u8]) -> Answer
 // The value itself: the part of the text that a lookup finds, and the empty part at byte 0 where it is refused.
 pub fn property<'a>(text: &'a [u8], at: usize, key: &[u8]) -> &'a [u8]
     ensures { λ r. ⌜ now r ≡ spec.partOf (spec.lookup (now (text .entry)) at (now (key .entry))) (now (text .entry)) ⌝ }
+    ensures { λ r. ⌜ r .ptr ≡ spec.placeOf (spec.lookup (now (text .entry)) at (now (key .entry))) (text .entry .ptr) ⌝ }
 {
     let Answer::Found(start, end) = lookup(text, at, key) else {
         return &text[0..0];

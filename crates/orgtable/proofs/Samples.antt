@@ -1,4 +1,4 @@
--- The printed texts worked out by hand are right, by computation. Assumes nothing.
+-- The samples marked P are right, all of them, by computation  [01 "Sample readings"].
 use mathlib.Core.Path.{refl}
 use Rattle.text.specs.Cases.{Right}
 use Rattle.orgtable.specs.Samples.{samples, OpenSamples}

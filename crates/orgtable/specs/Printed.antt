@@ -2,14 +2,15 @@
 use mathlib.Core.Bool.{true, false}
 use mathlib.Core.List.{List, [], _∷_, _++_}
 use Prim.Native.Nat.{ℕ, zero, suc, _+_, _/_, _%_}
-use lib.Dec.{ltb}
+use lib.Dec.{ltb, eqb}
 use lib.ListN.{take, drop}
+use Rattle.text.specs.Number
 use Rattle.text.specs.Runs.{word}
 use Rattle.reading.specs.declared.answer.Answer.{Answer}
 use Rattle.reading.specs.declared.answer.Answer.the-variants.{Done, TooLong, TooDeep, NoRoom}
 use Rattle.reading.specs.Records.{recordSize}
 use Rattle.reading.specs.Reading.{reading}
-use Rattle.reading.specs.Answers.{answer, leaves, OpenAnswers}
+use Rattle.reading.specs.Answers.{answer, number, count, leaves, OpenAnswers}
 
 abbrev pub newline : ℕ
 newline = 10
@@ -43,15 +44,15 @@ recordLines (suc n) t = line (take recordSize t) ++ recordLines n (drop recordSi
 unfoldable pub refused : List ℕ → List ℕ
 refused ns = word "refused " ++ line ns
 
-abbrev pub printed : Answer → List ℕ → List ℕ
-printed (Done n) t = recordLines n t
-printed TooLong t = refused (1 ∷ [])
-printed TooDeep t = refused (2 ∷ [])
-printed (NoRoom n) t = refused (3 ∷ n ∷ [])
+-- What is printed for a number n, what it returned and the table that it left.
+abbrev pub printed : ℕ → ℕ → List ℕ → List ℕ
+printed n c t =
+    elim (eqb n Number.done)
+    [ true ↦ recordLines c t | false ↦ elim (eqb n Number.noRoom) [ true ↦ refused (n ∷ c ∷ []) | false ↦ refused (n ∷ []) ] ]
 
 -- What is printed for a text s, read into the table t.
 abbrev pub printedText : List ℕ → List ℕ → List ℕ
-printedText s t = printed (answer s t) (leaves (answer s t) (reading s) t)
+printedText s t = let a = answer s t in printed (number a) (count a) (leaves (number a) (reading s) t)
 
 -- how many records of the table are printed
 abbrev pub shown : Answer → ℕ

@@ -4,6 +4,7 @@ ghost use Prim.Native.Nat.{_+_, _*_, _≤_, _<_};
 ghost use lib.ListN.{length, take};
 ghost use lib.Seq.{slice};
 ghost use Rattle.text.specs.Runs.{word};
+ghost use Rattle.reading.specs.Answers.{number, count};
 ghost use Rattle.orgtable.specs.Printed.{decimal, line, recordLines, refused, printed, printedText, shown};
 use libc::STDOUT_FILENO;
 use reading::answer::Answer;
@@ -120,7 +121,7 @@ fn put_need(out: &mut [u8], number: u64, count: usize) -> usize
 // What is printed for an answer and the table that it left.
 fn put_answer(out: &mut [u8], answer: Answer, table: &[u32]) -> usize
     requires { ⌜ (50 ≤ length (now out)) × (shown answer * 7 ≤ length (now table)) × (shown answer * 77 ≤ length (now out)) ⌝ }
-    ensures { λ r. ⌜ take r (now (out .exit)) ≡ printed answer (now (table .entry)) ⌝ }
+    ensures { λ r. ⌜ take r (now (out .exit)) ≡ printed (number answer) (count answer) (now (table .entry)) ⌝ }
     ensures { λ r. ⌜ r ≤ length (now (out .entry)) ⌝ }
 {
     match answer {

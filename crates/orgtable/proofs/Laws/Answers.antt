@@ -11,7 +11,7 @@ use borrow.Table.Steps.{cases}
 use Rattle.reading.specs.declared.answer.Answer.{Answer}
 use Rattle.reading.specs.declared.record.Record.{Record}
 use Rattle.reading.specs.Nesting.{nesting}
-use Rattle.reading.specs.Answers.{textLimit, depthLimit, room, answerFor}
+use Rattle.reading.specs.Answers.{textLimit, depthLimit, room, answerFor, answer, number, count}
 use Rattle.reading.specs.Promises.{Settled}
 use Rattle.orgtable.specs.Printed.{printed, printedText, shown}
 
@@ -27,7 +27,8 @@ answerFor-shown s R t =
 -- of a reading call with text s and table t, which answered a and left t′
 module _ (s t : List ℕ) (a : Answer) (t′ : List ℕ) (h : Settled s t a t′) where
   pub settled-shown : shown a * 7 ≤ length t
-  settled-shown = rw (h .answersIt) (answerFor-shown s (h .table) t)
+  settled-shown = rw (h .answers) (answerFor-shown s (h .table) t)
 
-  pub settled-printed : printed a t′ ≡ printedText s t
-  settled-printed = rw (h .left, h .answers)
+  pub settled-printed : printed (number a) (count a) t′ ≡ printedText s t
+  unfolding answer
+  settled-printed = rw (h .left, h .answers, h .reads)

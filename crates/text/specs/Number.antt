@@ -1,0 +1,26 @@
+-- The numbers of an answer  [01 "Numbers of an answer"].
+use Prim.Native.Nat.{ℕ}
+
+abbrev pub done : ℕ
+done = 0
+
+abbrev pub tooLong : ℕ
+tooLong = 1
+
+abbrev pub tooDeep : ℕ
+tooDeep = 2
+
+abbrev pub noRoom : ℕ
+noRoom = 3
+
+abbrev pub noHeading : ℕ
+noHeading = 4
+
+abbrev pub noDrawer : ℕ
+noDrawer = 5
+
+abbrev pub noKey : ℕ
+noKey = 6
+
+abbrev pub badKey : ℕ
+badKey = 7
