@@ -27,22 +27,20 @@ pub extern "C" fn comaltzex_read(text: &[u8], table: &mut [u32]) -> Reading
     ensures { λ r. ⌜ ReadsAs (now (text .entry)) (now (table .entry)) r (now (table .exit)) ⌝ }
 {
     match read(text, table) {
-        Answer::Done(n) => Reading {
-            number: 0,
-            count: n,
-        },
-        Answer::TooLong => Reading {
-            number: 1,
-            count: 0,
-        },
-        Answer::TooDeep => Reading {
-            number: 2,
-            count: 0,
-        },
-        Answer::NoRoom(n) => Reading {
-            number: 3,
-            count: n,
-        },
+        Answer::Done(n) => answered(0, n),
+        Answer::TooLong => answered(1, 0),
+        Answer::TooDeep => answered(2, 0),
+        Answer::NoRoom(n) => answered(3, n),
+    }
+}
+
+// An answer to a reading call.
+fn answered(number: u32, count: usize) -> Reading
+    ensures { λ r. ⌜ r ≡ record { number = number; count = count } ⌝ }
+{
+    Reading {
+        number: number,
+        count: count,
     }
 }
 

@@ -3,6 +3,7 @@
 use mathlib.Core.Path.{sym, _∙_}
 use Prim.Native.Nat.{_≤_}
 use native.Mathlib.Omega.{arith}
+use borrow.Author.Needs.{needs}
 use lib.ListN.{length}
 use Rattle.rules.proofs.Laws.LineOf.{lineOf, lineSpan-next}
 use Rattle.lookup.proofs.Laws.Finding.{section-order, drawerAfter-end, drawerAfter-planning, drawerAfter-heading}
@@ -52,7 +53,7 @@ pub find-drawer-spec : {M : Type 1} → statement M
 find-drawer-spec =
     tie.close
     (tie.spec
-    (λ c κs. omega arith)
+    (λ c κs. search needs)
     returns
     (λ c κs. order (c .before))
     is-planning-requires
