@@ -5,6 +5,7 @@ ghost use lib.ListN.{length, take};
 ghost use lib.Seq.{slice};
 ghost use Rattle.text.specs.Runs.{word};
 ghost use Rattle.orgtable.specs.Printed.{decimal, line, recordLines, refused, printed, printedText, shown};
+use libc::STDERR_FILENO;
 use libc::STDOUT_FILENO;
 use reading::answer::Answer;
 use reading::read::read;
@@ -141,18 +142,30 @@ fn put_reading(out: &mut [u8], text: &[u8], table: &mut [u32]) -> usize
     put_answer(out, answer, table)
 }
 
-// Reads a text into a table, and writes what is printed for it in one piece.
+// A line to standard error. Where that fails there is nobody left to tell.
+pub fn complain(line: &[u8]) {
+    io::write_all(STDERR_FILENO, line);
+}
+
+// Writes to standard output in one piece, or says that it could not.
+pub fn print(bytes: &[u8]) {
+    if !io::write_all(STDOUT_FILENO, bytes) {
+        complain(b"orgtable: standard output could not be written whole\n");
+    }
+}
+
+// Reads a text into a table, and prints what is printed for it.
 pub fn print_reading(text: &[u8], table: &mut [u32])
     requires { ⌜ length (now table) ≤ 16384 ⌝ }
 {
     let mut out = [0u8; 180224];
     let used = put_reading(&mut out, text, table);
-    io::write_all(STDOUT_FILENO, &out[..used]);
+    print(&out[..used]);
 }
 
-// Writes a refusal's line.
+// Prints a refusal's line.
 pub fn print_refusal(number: u64) {
     let mut out = [0u8; 29];
     let used = put_refusal(&mut out, number);
-    io::write_all(STDOUT_FILENO, &out[..used]);
+    print(&out[..used]);
 }

@@ -7,8 +7,8 @@ use lib.Seq.{length-take-le}
 use Rattle.orgtable.proofs.output.print_reading.Statement.{statement}
 use Rattle.orgtable.proofs.output.print_reading.Tie as tie
 
-slice-aggregate-write-all : tie.Need-slice-aggregate-write-all
-slice-aggregate-write-all c = sym (length-take-le _ _ (omega arith))
+slice-aggregate-print : tie.Need-slice-aggregate-print
+slice-aggregate-print c = sym (length-take-le _ _ (omega arith))
 
 pub print-reading-spec : {M : Type 1} → statement M
 print-reading-spec =
@@ -17,7 +17,7 @@ print-reading-spec =
     (λ c. search needs)
     (λ c κs. omega arith)
     (λ c. omega arith)
-    slice-aggregate-write-all
+    slice-aggregate-print
     (λ c κs. search needs)
     (λ c. search needs)
     (λ c. search needs))

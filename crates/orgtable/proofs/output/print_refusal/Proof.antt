@@ -7,8 +7,8 @@ use lib.Seq.{length-take-le}
 use Rattle.orgtable.proofs.output.print_refusal.Statement.{statement}
 use Rattle.orgtable.proofs.output.print_refusal.Tie as tie
 
-slice-aggregate-write-all : tie.Need-slice-aggregate-write-all
-slice-aggregate-write-all c = sym (length-take-le _ _ (omega arith))
+slice-aggregate-print : tie.Need-slice-aggregate-print
+slice-aggregate-print c = sym (length-take-le _ _ (omega arith))
 
 pub print-refusal-spec : {M : Type 1} → statement M
 print-refusal-spec =
@@ -17,6 +17,6 @@ print-refusal-spec =
     (λ c. search needs)
     (λ c κs. search needs)
     (λ c. search needs)
-    slice-aggregate-write-all
+    slice-aggregate-print
     (λ c κs. search needs)
     (λ c. search needs))
