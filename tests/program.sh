@@ -24,7 +24,7 @@ plain=$CARGO_TARGET_DIR/release/plain-table
 run() {
     : >"$out"
     status=0
-    timeout 60 "$@" 2>"$err" || status=$?
+    timeout 10 "$@" 2>"$err" || status=$?
 }
 
 # expect NAME: the last run printed $wanted and complained as in $complaint. Not for use in a pipe: a count made there is lost.
@@ -45,7 +45,7 @@ prints() {
     run "$program" <"$text" >"$out"
     expect "$1"
     status=0
-    dd if="$text" bs=7 2>/dev/null | timeout 60 "$program" >"$out" 2>"$err" || status=$?
+    dd if="$text" bs=7 2>/dev/null | timeout 10 "$program" >"$out" 2>"$err" || status=$?
     expect "$1, in pieces"
 }
 
