@@ -1,6 +1,9 @@
 -- What a read's answer means, and what standard input came to  [01 "What the reader covers"]. No contract of `read` speaks of the bytes themselves.
+use mathlib.Core.List.{List, [], _∷_}
 use Prim.Native.Nat.{ℕ, zero, suc, _≤_, _<_, min}
+use lib.ListN.{take}
 use lib.IntN.{ℤ, pos, negsuc}
+use Rattle.orgtable.specs.Printed.{refused, printedText}
 use Rattle.orgtable.specs.declared.input.Step.{Step}
 use Rattle.orgtable.specs.declared.input.Step.the-variants.{More, End, Failed as ReadFailed}
 use Rattle.orgtable.specs.declared.input.Input.{Input}
@@ -33,3 +36,9 @@ unfoldable pub InputWithin : Input → ℕ → Type 0
 InputWithin (Bytes k) n = k ≤ n
 InputWithin TooLong n = Unit
 InputWithin Failed n = Unit
+
+-- What is printed for it, when its bytes are at the front of the buffer b and are read into the table t. Where a read failed there is no table.
+unfoldable pub printedInput : Input → List ℕ → List ℕ → List ℕ
+printedInput (Bytes k) b t = printedText (take k b) t
+printedInput TooLong b t = refused (1 ∷ [])
+printedInput Failed b t = []

@@ -8,8 +8,7 @@ use input::Input;
 use input::read_input;
 use libc::STDIN_FILENO;
 use output::complain;
-use output::print_reading;
-use output::print_refusal;
+use output::print_input;
 use usage::print_usage;
 
 fn main() {
@@ -20,11 +19,9 @@ fn main() {
     let mut buffer = [0u8; 65536];
     let mut table = [0u32; 16384];
     let input = read_input(STDIN_FILENO, &mut buffer);
-    match input {
-        Input::Bytes(used) => print_reading(&buffer[..used], &mut table),
-        Input::TooLong => print_refusal(1),
-        Input::Failed => complain(
-            b"orgtable: standard input could not be read, so no table is printed\n",
-        ),
+    if let Input::Failed = input {
+        complain(b"orgtable: standard input could not be read, so no table is printed\n");
+        return;
     }
+    print_input(input, &buffer, &mut table);
 }

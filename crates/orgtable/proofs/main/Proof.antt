@@ -1,22 +1,15 @@
--- `orgtable::main` is safe: the bytes that were read are the buffer's, from Input.
+-- `orgtable::main` is safe: the bytes that were read are the buffer's, and the buffer is as long as the longest text.
 -- Assumes nothing.
-use mathlib.Core.Path.{sym, _∙_}
 use native.Mathlib.Omega.{arith}
 use borrow.Author.Needs.{needs}
-use lib.Seq.{length-take-le}
-use Rattle.orgtable.proofs.Laws.Input.{bytes-fit}
 use Rattle.orgtable.proofs.main.Statement.{statement}
 use Rattle.orgtable.proofs.main.Tie as tie
 
-array-share-prefix-buffer : tie.Need-array-share-prefix-buffer
-array-share-prefix-buffer c =
-    let fits = bytes-fit _ _ _ (c .before .input .given .1) (c .before .before .before .before .read-input .ensures) in
-    omega arith
-
-slice-aggregate-print-reading : tie.Need-slice-aggregate-print-reading
-slice-aggregate-print-reading c =
-    let fits = bytes-fit _ _ _ (c .before .before .input .given .1) (c .before .before .before .before .before .read-input .ensures) in
-    sym (length-take-le _ _ (omega arith))
+print-input-requires : tie.Need-print-input-requires
+print-input-requires c κs =
+    let read = c .before .before .before .before .read-input in
+    let same = read .kept .1 .0 in
+    (rw same (read .ensures), (omega arith, omega arith))
 
 pub main-spec : {M : Type 1} → statement M
 main-spec =
@@ -28,15 +21,10 @@ main-spec =
     (λ c. search needs)
     (λ c κs. search needs)
     (λ c. search needs)
-    array-share-prefix-buffer
-    slice-aggregate-print-reading
-    (λ c. search needs)
-    (λ c κs. search needs)
     (λ c. search needs)
     (λ c κs. search needs)
     (λ c. search needs)
     (λ c. search needs)
-    (λ c κs. search needs)
     (λ c. search needs)
-    (λ c. search needs)
+    print-input-requires
     (λ c. search needs))

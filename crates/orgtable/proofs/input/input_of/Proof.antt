@@ -1,6 +1,5 @@
 -- `orgtable::input::input_of` meets its contract, by the step's case.
 -- Assumes nothing.
-use mathlib.Core.Path.{refl}
 use borrow.Author.Needs.{needs}
 use Rattle.orgtable.specs.Input.{inputOf}
 use Rattle.orgtable.proofs.input.input_of.Statement.{statement}
