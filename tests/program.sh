@@ -1,40 +1,178 @@
 #!/bin/sh
-# Runs target/bin/orgtable on small inputs and compares what it prints with document 01's words.
+# Runs the program on document 01's samples, on the books, at the limits and where reading or writing fails. All that it prints, on
+# standard output and on standard error, is held to document 01's words or to the plain reader's table, byte for byte.
+#     sh tests/program.sh [PROGRAM]          (target/bin/orgtable, or another one, to see this script fail)
 set -eu
+program=${1:-$(dirname "$0")/../target/bin/orgtable}
+[ -x "$program" ] || { echo "program: $program is missing: rt check orgtable" >&2; exit 1; }
+[ -c /dev/full ] || { echo 'program: /dev/full is missing' >&2; exit 1; }
+program=$(cd "$(dirname "$program")" && pwd)/$(basename "$program")
 cd "$(dirname "$0")/.."
-program=target/bin/orgtable
+
+room=$(mktemp -d)
+trap 'rm -rf "$room"' EXIT
+text=$room/text wanted=$room/wanted complaint=$room/complaint out=$room/out err=$room/err
+held=0
 failed=0
 
-# expect NAME WANTED: what the program prints for standard input
-expect() {
-    got=$("$program")
-    if [ "$got" != "$2" ]; then
-        printf 'program: %s: printed\n%s\ninstead of\n%s\n' "$1" "$got" "$2" >&2
-        failed=1
-    fi
+export CARGO_TARGET_DIR="${CARGO_TARGET_DIR:-$PWD/target/cargo}"
+(cd tests/reader && cargo build --offline --release --quiet --bin plain-table)
+plain=$CARGO_TARGET_DIR/release/plain-table
+"${CC:-cc}" -std=c99 -Wall -Wextra -pedantic -Werror -o "$room/paused" tests/program/paused.c
+
+# run COMMAND..: runs it, with standard input and output as the caller has them.
+run() {
+    : >"$out"
+    status=0
+    timeout 10 "$@" 2>"$err" || status=$?
 }
 
-# nested N TEXT: TEXT in N nested blocks of as many names
+# expect NAME: the last run printed $wanted and complained as in $complaint. Not for use in a pipe: a count made there is lost.
+expect() {
+    if [ "$status" = 0 ] && cmp -s "$wanted" "$out" && cmp -s "$complaint" "$err"; then
+        held=$((held + 1))
+        return
+    fi
+    failed=$((failed + 1))
+    echo "program: $1: status $status, and (< wanted, > found):" >&2
+    diff "$wanted" "$out" | head -n 4 >&2
+    diff "$complaint" "$err" | head -n 4 >&2
+}
+
+# prints NAME: for $text the program prints $wanted; also when $text comes through a pipe in pieces of seven bytes.
+prints() {
+    : >"$complaint"
+    run "$program" <"$text" >"$out"
+    expect "$1"
+    status=0
+    dd if="$text" bs=7 2>/dev/null | timeout 10 "$program" >"$out" 2>"$err" || status=$?
+    expect "$1, in pieces"
+}
+
+# prints_plain NAME: it prints what the plain reader does.
+prints_plain() {
+    "$plain" <"$text" >"$wanted"
+    prints "$1"
+}
+
+# prints_kinds TEXT KINDS: it prints what the plain reader does, and the first numbers are these.
+prints_kinds() {
+    printf '%b' "$1" >"$text"
+    prints_plain "$1"
+    cut -d ' ' -f 1 "$out" | paste -s -d ' ' - >"$room/kinds"
+    mv "$room/kinds" "$out"
+    echo "$2" >"$wanted"
+    expect "$1, kinds"
+}
+
+# says NAME LINE: the last run printed nothing but one line to standard error.
+says() {
+    : >"$wanted"
+    echo "$2" >"$complaint"
+    expect "$1"
+}
+
+# nested N: N blocks, each in the one before
 nested() {
     awk -v n="$1" 'BEGIN { for (i = 1; i <= n; i++) print "#+begin_b" i; print "x"; for (i = n; i >= 1; i--) print "#+end_b" i }'
 }
 
-printf '* A\n:PROPERTIES:\n:VIN: 7\n:END:\n\nhi\n' | expect 'first sample' '1 0 35 0 35 0 0
+# rows N: a table of N rows; with the table, the section and the document N + 3 records
+rows() {
+    awk -v n="$1" 'BEGIN { for (i = 0; i < n; i++) print "|" }'
+}
+
+# document 01, "Sample readings"
+printf '* A\n:PROPERTIES:\n:VIN: 7\n:END:\n\nhi\n' >"$room/first"
+cp "$room/first" "$text"
+cat >"$wanted" <<'END'
+1 0 35 0 35 0 0
 2 0 35 4 35 0 1
 3 4 35 4 35 1 0
 5 4 32 17 25 2 0
 6 17 25 23 24 3 0
-16 32 35 32 35 2 0'
-printf '' | expect 'empty text' '1 0 0 0 0 0 0'
-head -c 65536 /dev/zero | tr '\0' 'x' | expect '65,536 bytes' '1 0 65536 0 65536 0 0
-3 0 65536 0 65536 0 0
-16 0 65536 0 65536 1 0'
-head -c 65537 /dev/zero | tr '\0' 'x' | expect '65,537 bytes' 'refused 1'
-nested 33 | expect 'depth 33' 'refused 2'
-nested 32 | "$program" | awk 'END { exit NR == 35 ? 0 : 1 }' || { echo 'program: depth 32: not 35 records' >&2; failed=1; }
-# 2,337 rows, the table, the section and the document are 2,340 records
-awk 'BEGIN { for (i = 0; i < 2337; i++) print "|" }' | "$program" | awk 'END { exit NR == 2340 ? 0 : 1 }' || { echo 'program: 2,340 records do not fit' >&2; failed=1; }
-awk 'BEGIN { for (i = 0; i < 2338; i++) print "|" }' | expect '2,341 records' 'refused 3 2341'
+16 32 35 32 35 2 0
+END
+prints 'first sample'
+: >"$text"
+echo '1 0 0 0 0 0 0' >"$wanted"
+prints 'empty text'
+prints_kinds '* A\n\n:PROPERTIES:\n:VIN: 7\n:END:\n' '1 2 3 7 16'
+prints_kinds '#+begin_src\n* A\n#+end_src\n' '1 3 16 2 3 16'
+prints_kinds '*' '1 3 16'
+prints_kinds '* ' '1 2'
+prints_kinds '----' '1 3 16'
+prints_kinds '-----' '1 3 14'
+prints_kinds '* A\n:PROPERTIES:\n:+:\n:END:\n' '1 2 3 7 16'
+prints_kinds '* A\n:PROPERTIES:\n:A++:\n:END:\n' '1 2 3 7 16'
+prints_kinds '* A\n:PROPERTIES:\n:A+:\n:END:\n' '1 2 3 5 6'
+prints_kinds '#+:' '1 3 16'
+prints_kinds '#+::' '1 3 15'
 
-[ "$failed" = 0 ] && echo 'program: 8 inputs printed as they should'
-exit "$failed"
+for book in tests/books/*.org; do
+    cp "$book" "$text"
+    prints_plain "$book"
+done
+
+# the limits
+head -c 65536 /dev/zero | tr '\0' 'x' >"$text"
+printf '1 0 65536 0 65536 0 0\n3 0 65536 0 65536 0 0\n16 0 65536 0 65536 1 0\n' >"$wanted"
+prints '65,536 bytes'
+head -c 65537 /dev/zero | tr '\0' 'x' >"$text"
+echo 'refused 1' >"$wanted"
+prints '65,537 bytes'
+head -c 200000 /dev/zero | tr '\0' 'x' >"$text"
+prints '200,000 bytes'
+nested 32 >"$text"
+prints_plain 'depth 32'
+nested 33 >"$text"
+echo 'refused 2' >"$wanted"
+prints 'depth 33'
+rows 2338 >"$text"
+echo 'refused 3 2341' >"$wanted"
+prints '2,341 records'
+rows 2337 >"$text"
+printf '1 0 4674 0 4674 0 0\n3 0 4674 0 4674 0 0\n10 0 4674 0 4674 1 0\n' >"$wanted"
+awk 'BEGIN { for (i = 0; i < 4674; i += 2) print 11, i, i + 2, i, i + 1, 2, 0 }' >>"$wanted"
+prints '2,340 records'
+cp "$wanted" "$room/table"
+
+# reading fails: no table
+unread='orgtable: standard input could not be read, so no table is printed'
+run "$program" </ >"$out"
+says 'a directory' "$unread"
+run "$program" <&- >"$out"
+says 'standard input closed' "$unread"
+run "$program" 0>"$room/sink" >"$out"
+says 'standard input for writing only' "$unread"
+run "$room/paused" "$program" >"$out"
+says 'a failure after the first bytes' "$unread"
+
+# writing fails: nothing is printed, or what there was room for
+unwritten='orgtable: standard output could not be written whole'
+for input in "$room/first" "$text"; do
+    run "$program" <"$input" >/dev/full
+    says 'a full disk' "$unwritten"
+    run "$program" <"$input" >&-
+    says 'standard output closed' "$unwritten"
+done
+(trap '' XFSZ && ulimit -f 8 && run "$program" <"$text" >"$out" && exit "$status") && status=0 || status=$?
+head -c "$(wc -c <"$out")" "$room/table" >"$wanted"
+expect 'a disk that fills up'
+
+# arguments
+{ run "$program" --help >"$room/help" && cat >"$room/rest"; } <"$room/first"
+: >"$complaint"
+head -n 1 "$room/help" >"$out"
+echo 'use: orgtable < BOOK' >"$wanted"
+expect '--help'
+cp "$room/rest" "$out"
+cp "$room/first" "$wanted"
+expect '--help does not read'
+for argument in tests/books/orders.org --helps -h ''; do
+    run "$program" "$argument" <"$room/first" >"$out"
+    says "argument '$argument'" 'orgtable: takes no file name; use: orgtable < BOOK'
+done
+
+echo "program: $held expectations held, $failed did not"
+[ "$failed" = 0 ]

@@ -10,16 +10,19 @@ command -v emacs >/dev/null || { echo "emacs: not installed, nothing compared"; 
 room=$(mktemp -d)
 trap 'rm -rf "$room"' EXIT
 
-# Whether both give the same table for a text.
+books=${1:-10}
+[ "$books" -gt 0 ] || { echo "usage: $0 [BOOKS]"; exit 1; }
+
+# Whether both give the same table for a text. A program that prints nothing has failed, and is no difference.
 agree() {
-  "$program" <"$1" >"$room/ours"
+  "$program" <"$1" >"$room/ours" && [ -s "$room/ours" ] || { echo "emacs: no table of $1"; exit 1; }
   emacs --batch -Q -l table.el --eval "(table-print \"$1\")" >"$room/theirs" 2>"$room/said" || { cat "$room/said"; exit 1; }
   cmp -s "$room/ours" "$room/theirs"
 }
 
 seed=1
 records=0
-while [ "$seed" -le "${1:-10}" ]; do
+while [ "$seed" -le "$books" ]; do
   emacs --batch -Q -l book.el --eval "(book-write \"$room/book.org\" $seed)"
   if ! agree "$room/book.org"; then
     echo "emacs: the tables of book $seed differ (< ours, > org-element's):"
@@ -29,7 +32,7 @@ while [ "$seed" -le "${1:-10}" ]; do
   records=$((records + $(wc -l <"$room/ours")))
   seed=$((seed + 1))
 done
-echo "emacs: ${1:-10} books, $records records agree with org-element"
+echo "emacs: $books books, $records records agree with org-element"
 
 for text in differences/*.org; do
   if agree "$text"; then

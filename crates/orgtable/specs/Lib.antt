@@ -1,3 +1,4 @@
 pub mod Printed
+pub mod Input
 pub mod Samples
 pub mod Pinned

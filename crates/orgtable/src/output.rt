@@ -4,8 +4,11 @@ ghost use Prim.Native.Nat.{_+_, _*_, _≤_, _<_};
 ghost use lib.ListN.{length, take};
 ghost use lib.Seq.{slice};
 ghost use Rattle.text.specs.Runs.{word};
-ghost use Rattle.reading.specs.Answers.{number, count};
+ghost use Rattle.reading.specs.Answers.{textLimit, number, count};
+ghost use Rattle.orgtable.specs.Input.{InputWithin, printedInput};
 ghost use Rattle.orgtable.specs.Printed.{decimal, line, recordLines, refused, printed, printedText, shown};
+use crate::input::Input;
+use libc::STDERR_FILENO;
 use libc::STDOUT_FILENO;
 use reading::answer::Answer;
 use reading::read::read;
@@ -142,18 +145,40 @@ fn put_reading(out: &mut [u8], text: &[u8], table: &mut [u32]) -> usize
     put_answer(out, answer, table)
 }
 
-// Reads a text into a table, and writes what is printed for it in one piece.
-pub fn print_reading(text: &[u8], table: &mut [u32])
-    requires { ⌜ length (now table) ≤ 16384 ⌝ }
+// What is printed for what standard input came to: nothing where a read failed. The buffer holds the longest text, so what does not fit is too long.
+fn put_input(out: &mut [u8], input: Input, buffer: &[u8], table: &mut [u32]) -> usize
+    requires { ⌜ InputWithin input (length (now buffer)) ⌝ }
+    requires { ⌜ length (now buffer) ≡ textLimit ⌝ }
+    requires { ⌜ (50 ≤ length (now out)) × (length (now table) * 11 ≤ length (now out)) ⌝ }
+    ensures { λ r. ⌜ take r (now (out .exit)) ≡ printedInput input (now (buffer .entry)) (now (table .entry)) ⌝ }
+    ensures { λ r. ⌜ r ≤ length (now (out .entry)) ⌝ }
 {
-    let mut out = [0u8; 180224];
-    let used = put_reading(&mut out, text, table);
-    io::write_all(STDOUT_FILENO, &out[..used]);
+    match input {
+        Input::Bytes(used) => put_reading(out, &buffer[..used], table),
+        Input::TooLong => put_refusal(out, 1),
+        Input::Failed => 0,
+    }
 }
 
-// Writes a refusal's line.
-pub fn print_refusal(number: u64) {
-    let mut out = [0u8; 29];
-    let used = put_refusal(&mut out, number);
-    io::write_all(STDOUT_FILENO, &out[..used]);
+// A line to standard error. Where that fails there is nobody left to tell.
+pub fn complain(line: &[u8]) {
+    io::write_all(STDERR_FILENO, line);
+}
+
+// Writes to standard output in one piece, or says that it could not.
+pub fn print(bytes: &[u8]) {
+    if !io::write_all(STDOUT_FILENO, bytes) {
+        complain(b"orgtable: standard output could not be written whole\n");
+    }
+}
+
+// Prints what is printed for what standard input came to, read into a table of 16,384 numbers.  [01 "What the reader covers"]
+pub fn print_input(input: Input, buffer: &[u8], table: &mut [u32])
+    requires { ⌜ InputWithin input (length (now buffer)) ⌝ }
+    requires { ⌜ length (now buffer) ≡ textLimit ⌝ }
+    requires { ⌜ length (now table) ≡ 16384 ⌝ }
+{
+    let mut out = [0u8; 180224];
+    let used = put_input(&mut out, input, buffer, table);
+    print(&out[..used]);
 }

@@ -51,6 +51,9 @@ pub fn cases_of(path: &Path) -> Result<Vec<Case>, String> {
         parse_line(line, directory, &mut cases)
             .map_err(|error| format!("{}:{}: {error}", path.display(), index + 1))?;
     }
+    if cases.is_empty() {
+        return Err(format!("{}: no cases", path.display()));
+    }
     match cases.iter().find(|case| expects_nothing(case)) {
         Some(case) => Err(format!(
             "{}: {}: nothing expected",
@@ -100,7 +103,10 @@ fn parse_line(line: &str, directory: &Path, cases: &mut Vec<Case>) -> Result<(),
 fn add_text(word: &str, rest: &str, directory: &Path, text: &mut Vec<u8>) -> Result<bool, String> {
     match word {
         "no-newline" => {
-            text.pop();
+            alone(word, rest)?;
+            if text.pop() != Some(b'\n') {
+                return Err("no-newline, and no byte 10 before it".to_string());
+            }
         }
         "repeat" => {
             let (count, piece) = rest.split_once(' ').ok_or("repeat COUNT PIECE")?;
@@ -143,7 +149,10 @@ fn add_record(line: &str, case: &mut Case) -> Result<(), String> {
 
 fn expectation(word: &str, rest: &str) -> Result<Expectation, String> {
     Ok(match word {
-        "table" => Expectation::Table(Vec::new()),
+        "table" => {
+            alone(word, rest)?;
+            Expectation::Table(Vec::new())
+        }
         "kinds" => Expectation::Kinds(rest.split(' ').map(number).collect::<Result<_, _>>()?),
         "count" => Expectation::Count(number(rest)?),
         "kind" => {
@@ -189,6 +198,14 @@ fn lookup_expectation(rest: &str) -> Result<Expectation, String> {
         answer: (number(given)?, number(start)?, number(end)?),
         value: value.map(|value| quoted(&value)).transpose()?,
     })
+}
+
+/// Nothing stands after a word that takes nothing.
+fn alone(word: &str, rest: &str) -> Result<(), String> {
+    if rest.is_empty() {
+        return Ok(());
+    }
+    Err(format!("{rest:?} after {word}"))
 }
 
 fn quoted(word: &str) -> Result<Vec<u8>, String> {

@@ -37,21 +37,24 @@ fn run(directory: &Path) -> Result<usize, String> {
         "cases: {} files, {cases} cases, {expectations} expectations, {differences} differences",
         files.len()
     );
-    if cases == 0 {
-        return Err("no cases".to_string());
-    }
     Ok(differences)
 }
 
-/// The files `NN-name.txt` of the directory, in order.
+/// The files `NN-name.txt` of the directory, in order. Beside them there is only the README: a file
+/// of another name would never be run.
 fn case_files(directory: &Path) -> Result<Vec<PathBuf>, String> {
-    let entries = std::fs::read_dir(directory)
-        .map_err(|error| format!("{}: {error}", directory.display()))?;
-    let paths = entries.filter_map(|entry| entry.ok().map(|entry| entry.path()));
-    let is_case_file = |path: &PathBuf| path.extension().is_some_and(|end| end == "txt");
-    let mut files: Vec<PathBuf> = paths.filter(is_case_file).collect();
+    let told = |error| format!("{}: {error}", directory.display());
+    let entries = std::fs::read_dir(directory).map_err(told)?;
+    let paths = entries.map(|entry| entry.map(|entry| entry.path()));
+    let mut files: Vec<PathBuf> = paths.collect::<Result<_, _>>().map_err(told)?;
+    files.retain(|path| !path.ends_with("README.md"));
     files.sort();
-    Ok(files)
+    let is_case_file = |path: &PathBuf| path.extension().is_some_and(|end| end == "txt");
+    match files.iter().find(|path| !is_case_file(path)) {
+        Some(other) => Err(format!("{}: not named NN-name.txt", other.display())),
+        None if files.is_empty() => Err(format!("{}: no cases", directory.display())),
+        None => Ok(files),
+    }
 }
 
 fn report(file: &Path, case: &Case) -> usize {

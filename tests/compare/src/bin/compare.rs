@@ -20,7 +20,7 @@ const SHOWN: usize = 4_000;
 const LONGEST_SEARCH: Duration = Duration::from_secs(5);
 
 fn main() -> ExitCode {
-    let Ok(count) = argument(1, COUNT) else {
+    let Ok(count @ 1..) = argument(1, COUNT) else {
         return usage();
     };
     let Ok(seed) = argument(2, SEED) else {
@@ -42,7 +42,18 @@ fn main() -> ExitCode {
         }
     }
     println!("{}", summary(count, &texts, &tally));
+    if count >= COUNT && !sees_all(&texts, &tally) {
+        eprintln!("compare: a class of text, an answer or a kind never came");
+        return ExitCode::FAILURE;
+    }
     ExitCode::SUCCESS
+}
+
+/// Did each class of text, each answer of both calls and each kind of record come?
+fn sees_all(texts: &[usize], tally: &Tally) -> bool {
+    let lookups = [0, 1, 4, 5, 6, 7].map(|number| tally.lookups[number]);
+    let seen = [texts, &tally.readings, &lookups, &tally.kinds[1..]].concat();
+    seen.iter().all(|count| *count > 0)
 }
 
 fn argument(place: usize, default: u64) -> Result<u64, std::num::ParseIntError> {
