@@ -5,6 +5,7 @@ use lookup::lookup::Answer as Lookup;
 use lookup::lookup::lookup;
 use reading::answer::Answer;
 use reading::read::read;
+use text::number;
 
 // The number of a reading call's answer and its count.
 #[repr(C)]
@@ -27,10 +28,10 @@ pub extern "C" fn comaltzex_read(text: &[u8], table: &mut [u32]) -> Reading
     ensures { λ r. ⌜ ReadsAs (now (text .entry)) (now (table .entry)) r (now (table .exit)) ⌝ }
 {
     match read(text, table) {
-        Answer::Done(n) => answered(0, n),
-        Answer::TooLong => answered(1, 0),
-        Answer::TooDeep => answered(2, 0),
-        Answer::NoRoom(n) => answered(3, n),
+        Answer::Done(n) => answered(number::DONE, n),
+        Answer::TooLong => answered(number::TOO_LONG, 0),
+        Answer::TooDeep => answered(number::TOO_DEEP, 0),
+        Answer::NoRoom(n) => answered(number::NO_ROOM, n),
     }
 }
 
@@ -51,15 +52,15 @@ pub extern "C" fn comaltzex_lookup(text: &[u8], at: usize, key: &[u8]) -> Value
 {
     match lookup(text, at, key) {
         Lookup::Found(a, e) => Value {
-            number: 0,
+            number: number::DONE,
             start: a,
             end: e,
         },
-        Lookup::TooLong => refused(1),
-        Lookup::NoHeading => refused(4),
-        Lookup::NoDrawer => refused(5),
-        Lookup::NoKey => refused(6),
-        Lookup::BadKey => refused(7),
+        Lookup::TooLong => refused(number::TOO_LONG),
+        Lookup::NoHeading => refused(number::NO_HEADING),
+        Lookup::NoDrawer => refused(number::NO_DRAWER),
+        Lookup::NoKey => refused(number::NO_KEY),
+        Lookup::BadKey => refused(number::BAD_KEY),
     }
 }
 

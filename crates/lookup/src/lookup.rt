@@ -8,6 +8,7 @@ use crate::stages::find_drawer;
 use crate::stages::find_heading;
 use crate::stages::find_value;
 use crate::stages::is_bad_key;
+use text::limit;
 
 // The answer of a lookup, with the value's two ends.  [01 "Numbers of an answer"]
 pub enum Answer {
@@ -25,7 +26,7 @@ pub fn lookup(text: &[u8], at: usize, key: &[u8]) -> Answer
     ensures { λ r. ⌜ r ≡ spec.lookup (now (text .entry)) at (now (key .entry)) ⌝ }
     ensures { λ r. ⌜ Tied (now (text .entry)) at (now (key .entry)) r ⌝ }
 {
-    if 65536 < text.len() {
+    if limit::TEXT < text.len() {
         return Answer::TooLong;
     }
     if is_bad_key(key) {

@@ -14,6 +14,7 @@ use rules::property::find_properties_end;
 use rules::property::property_at;
 use text::bytes::Class;
 use text::bytes::run_end;
+use text::limit;
 use text::line::line_at;
 use text::line::line_end;
 use text::marks::word_end;
@@ -42,7 +43,7 @@ pub fn is_bad_key(key: &[u8]) -> bool
     ensures { λ r. ⌜ r ≡ isBadKey (now (key .entry)) ⌝ }
 {
     let size = key.len();
-    if size == 0 || 64 < size {
+    if size == 0 || limit::KEY < size {
         return true;
     }
     if word_end(key, 0, size) < size {

@@ -1,7 +1,7 @@
 -- What the program prints  [01 "Sample readings"].
 use mathlib.Core.Bool.{true, false}
 use mathlib.Core.List.{List, [], _∷_, _++_}
-use Prim.Native.Nat.{ℕ, zero, suc, _+_, _/_, _%_}
+use Prim.Native.Nat.{ℕ, zero, suc, _+_, _*_, _/_, _%_}
 use lib.Dec.{ltb, eqb}
 use lib.ListN.{take, drop}
 use Rattle.text.specs.Number
@@ -60,6 +60,13 @@ shown (Done n) = n
 shown TooLong = 0
 shown TooDeep = 0
 shown (NoRoom n) = 0
+
+-- a number of a table has at most ten digits, and a byte follows it; a record's line has seven of these
+abbrev pub cellSize : ℕ
+cellSize = 11
+
+abbrev pub lineSize : ℕ
+lineSize = recordSize * cellSize
 
 -- opens the definitions of this file and of those it stands on, for computed examples
 unfoldable pub OpenPrinted : Type 1

@@ -4,14 +4,18 @@ ghost use Prim.Native.Nat.{_+_, _*_, _≤_, _<_};
 ghost use lib.ListN.{length, take};
 ghost use lib.Seq.{slice};
 ghost use Rattle.text.specs.Runs.{word};
-ghost use Rattle.reading.specs.Answers.{textLimit, number, count};
+ghost use Rattle.text.specs.Limits.{textLimit};
+ghost use Rattle.reading.specs.Records.{recordSize};
+ghost use Rattle.reading.specs.Answers.{number, count};
 ghost use Rattle.orgtable.specs.Input.{InputWithin, printedInput};
-ghost use Rattle.orgtable.specs.Printed.{decimal, line, recordLines, refused, printed, printedText, shown};
+ghost use Rattle.orgtable.specs.Printed.{decimal, line, recordLines, refused, printed, printedText, shown, cellSize, lineSize};
 use crate::input::Input;
 use libc::STDERR_FILENO;
 use libc::STDOUT_FILENO;
 use reading::answer::Answer;
 use reading::read::read;
+use reading::record;
+use text::number;
 
 // One byte more after those in use, and how many are then in use.
 fn put(out: &mut [u8], used: usize, b: u8) -> usize
@@ -51,9 +55,9 @@ fn put_number(out: &mut [u8], used: usize, n: u64) -> usize
 
 // A number of a table and the byte after it: at most 11 bytes.
 fn put_cell(out: &mut [u8], used: usize, n: u32, after: u8) -> usize
-    requires { ⌜ used + 11 ≤ length (now out) ⌝ }
+    requires { ⌜ used + cellSize ≤ length (now out) ⌝ }
     ensures { λ r. ⌜ take r (now (out .exit)) ≡ take used (now (out .entry)) ++ decimal n ++ after ∷ [] ⌝ }
-    ensures { λ r. ⌜ r ≤ used + 11 ⌝ }
+    ensures { λ r. ⌜ r ≤ used + cellSize ⌝ }
 {
     let end = put_number(out, used, n as u64);
     put(out, end, after)
@@ -61,13 +65,13 @@ fn put_cell(out: &mut [u8], used: usize, n: u32, after: u8) -> usize
 
 // The line of a record, whose seven numbers stand at an index: at most 77 bytes.
 fn put_line(out: &mut [u8], used: usize, table: &[u32], at: usize) -> usize
-    requires { ⌜ (used + 77 ≤ length (now out)) × (at + 7 ≤ length (now table)) ⌝ }
-    ensures { λ r. ⌜ take r (now (out .exit)) ≡ take used (now (out .entry)) ++ line (slice at (at + 7) (now (table .entry))) ⌝ }
-    ensures { λ r. ⌜ r ≤ used + 77 ⌝ }
+    requires { ⌜ (used + lineSize ≤ length (now out)) × (at + recordSize ≤ length (now table)) ⌝ }
+    ensures { λ r. ⌜ take r (now (out .exit)) ≡ take used (now (out .entry)) ++ line (slice at (at + recordSize) (now (table .entry))) ⌝ }
+    ensures { λ r. ⌜ r ≤ used + lineSize ⌝ }
 {
     let mut end = used;
     let mut i = at;
-    while i < at + 6 {
+    while i < at + record::DETAIL {
         end = put_cell(out, end, table[i], b' ');
         i += 1;
     }
@@ -76,31 +80,31 @@ fn put_line(out: &mut [u8], used: usize, table: &[u32], at: usize) -> usize
 
 // The first records of a table, a line each.
 fn put_table(out: &mut [u8], table: &[u32], count: usize) -> usize
-    requires { ⌜ (count * 7 ≤ length (now table)) × (count * 77 ≤ length (now out)) ⌝ }
+    requires { ⌜ (count * recordSize ≤ length (now table)) × (count * lineSize ≤ length (now out)) ⌝ }
     ensures { λ r. ⌜ take r (now (out .exit)) ≡ recordLines count (now (table .entry)) ⌝ }
     ensures { λ r. ⌜ r ≤ length (now (out .entry)) ⌝ }
 {
     let mut used = 0;
     let mut i = 0;
     while i < count {
-        used = put_line(out, used, table, i * 7);
+        used = put_line(out, used, table, i * record::SIZE);
         i += 1;
     }
     used
 }
 
 // The start of a refusal's line.
-fn put_refused(out: &mut [u8], number: u64) -> usize
+fn put_refused(out: &mut [u8], number: u32) -> usize
     requires { ⌜ 28 ≤ length (now out) ⌝ }
     ensures { λ r. ⌜ take r (now (out .exit)) ≡ word "refused " ++ decimal number ⌝ }
     ensures { λ r. ⌜ r ≤ 28 ⌝ }
 {
     let used = put_all(out, 0, b"refused ");
-    put_number(out, used, number)
+    put_number(out, used, number as u64)
 }
 
 // A refusal's line.
-fn put_refusal(out: &mut [u8], number: u64) -> usize
+fn put_refusal(out: &mut [u8], number: u32) -> usize
     requires { ⌜ 29 ≤ length (now out) ⌝ }
     ensures { λ r. ⌜ take r (now (out .exit)) ≡ refused (number ∷ []) ⌝ }
     ensures { λ r. ⌜ r ≤ 29 ⌝ }
@@ -110,7 +114,7 @@ fn put_refusal(out: &mut [u8], number: u64) -> usize
 }
 
 // The line of a refusal that says how many records are needed.
-fn put_need(out: &mut [u8], number: u64, count: usize) -> usize
+fn put_need(out: &mut [u8], number: u32, count: usize) -> usize
     requires { ⌜ 50 ≤ length (now out) ⌝ }
     ensures { λ r. ⌜ take r (now (out .exit)) ≡ refused (number ∷ count ∷ []) ⌝ }
     ensures { λ r. ⌜ r ≤ 50 ⌝ }
@@ -123,21 +127,21 @@ fn put_need(out: &mut [u8], number: u64, count: usize) -> usize
 
 // What is printed for an answer and the table that it left.
 fn put_answer(out: &mut [u8], answer: Answer, table: &[u32]) -> usize
-    requires { ⌜ (50 ≤ length (now out)) × (shown answer * 7 ≤ length (now table)) × (shown answer * 77 ≤ length (now out)) ⌝ }
+    requires { ⌜ (50 ≤ length (now out)) × (shown answer * recordSize ≤ length (now table)) × (shown answer * lineSize ≤ length (now out)) ⌝ }
     ensures { λ r. ⌜ take r (now (out .exit)) ≡ printed (number answer) (count answer) (now (table .entry)) ⌝ }
     ensures { λ r. ⌜ r ≤ length (now (out .entry)) ⌝ }
 {
     match answer {
         Answer::Done(count) => put_table(out, table, count),
-        Answer::TooLong => put_refusal(out, 1),
-        Answer::TooDeep => put_refusal(out, 2),
-        Answer::NoRoom(count) => put_need(out, 3, count),
+        Answer::TooLong => put_refusal(out, number::TOO_LONG),
+        Answer::TooDeep => put_refusal(out, number::TOO_DEEP),
+        Answer::NoRoom(count) => put_need(out, number::NO_ROOM, count),
     }
 }
 
 // What is printed for a text, read into a table: at most 11 bytes a number, or a refusal of at most 50.
 fn put_reading(out: &mut [u8], text: &[u8], table: &mut [u32]) -> usize
-    requires { ⌜ (50 ≤ length (now out)) × (length (now table) * 11 ≤ length (now out)) ⌝ }
+    requires { ⌜ (50 ≤ length (now out)) × (length (now table) * cellSize ≤ length (now out)) ⌝ }
     ensures { λ r. ⌜ take r (now (out .exit)) ≡ printedText (now (text .entry)) (now (table .entry)) ⌝ }
     ensures { λ r. ⌜ r ≤ length (now (out .entry)) ⌝ }
 {
@@ -149,13 +153,13 @@ fn put_reading(out: &mut [u8], text: &[u8], table: &mut [u32]) -> usize
 fn put_input(out: &mut [u8], input: Input, buffer: &[u8], table: &mut [u32]) -> usize
     requires { ⌜ InputWithin input (length (now buffer)) ⌝ }
     requires { ⌜ length (now buffer) ≡ textLimit ⌝ }
-    requires { ⌜ (50 ≤ length (now out)) × (length (now table) * 11 ≤ length (now out)) ⌝ }
+    requires { ⌜ (50 ≤ length (now out)) × (length (now table) * cellSize ≤ length (now out)) ⌝ }
     ensures { λ r. ⌜ take r (now (out .exit)) ≡ printedInput input (now (buffer .entry)) (now (table .entry)) ⌝ }
     ensures { λ r. ⌜ r ≤ length (now (out .entry)) ⌝ }
 {
     match input {
         Input::Bytes(used) => put_reading(out, &buffer[..used], table),
-        Input::TooLong => put_refusal(out, 1),
+        Input::TooLong => put_refusal(out, number::TOO_LONG),
         Input::Failed => 0,
     }
 }

@@ -1,12 +1,14 @@
 ghost use mathlib.Core.Path.{_≡_};
 ghost use Prim.Native.Nat.{_+_, _*_, _≤_, _<_};
 ghost use lib.ListN.{length};
+ghost use Rattle.text.specs.Limits.{textLimit};
 ghost use Rattle.text.specs.Parts.{nextLine};
 ghost use Rattle.rules.specs.Headings.{isHeading};
-ghost use Rattle.reading.specs.Walk.{state, absorbed, openingEntries, headingEntry, headingsFrom, readingEntries, Small, HeadingLine, HeadingOrEnd};
+ghost use Rattle.reading.specs.Walk.{state, absorbed, openingEntries, headingEntry, headingsFrom, readingEntries, Small, HeadingLine, HeadingOrEnd, far};
 ghost use Rattle.reading.specs.Tracked.{parentIn, Earlier, lastIndex, Tracked};
 ghost use Rattle.reading.specs.Sections.{lineAt};
 ghost use Rattle.reading.specs.Makers.{headingRecord};
+use crate::record;
 use crate::record::Record;
 use crate::sink::Sink;
 use crate::sink::emit;
@@ -19,20 +21,20 @@ use text::line::line_end;
 
 // From a heading record of the table up its parents to the first with fewer stars; 0, the document, where there is none.
 fn find_parent(table: &[u32], from: usize, stars: usize) -> usize
-    requires { ⌜ from ≤ 200000 ⌝ }
+    requires { ⌜ from ≤ far ⌝ }
     ensures { λ r. ⌜ r ≡ parentIn (now (table .entry)) from stars ⌝ }
     ensures { λ r. ⌜ r ≤ from ⌝ }
 {
     let mut at = from;
     while 0 < at {
-        let row = at * 7;
-        if table.len() < row + 7 {
+        let row = at * record::SIZE;
+        if table.len() < row + record::SIZE {
             return 0;
         }
-        if (table[row + 6] as usize) < stars {
+        if (table[row + record::DETAIL] as usize) < stars {
             return at;
         }
-        let parent = table[row + 5] as usize;
+        let parent = table[row + record::PARENT] as usize;
         if at <= parent {
             return 0;
         }
@@ -51,7 +53,7 @@ fn heading_record(
     stars: usize,
     last: usize,
 ) -> Record
-    requires { ⌜ HeadingLine (now text) at inner next stars × (last ≤ 200000) ⌝ }
+    requires { ⌜ HeadingLine (now text) at inner next stars × (last ≤ far) ⌝ }
     ensures { λ r. ⌜ r ≡ headingRecord (now (text .entry)) (parentIn (now (table .entry)) last stars) at ⌝ }
     ensures { λ r. ⌜ Small r ⌝ }
 {
@@ -90,7 +92,7 @@ pub struct Turn {
 
 // The heading at a heading line and its section. `last` is the heading before it.
 pub fn read_heading(text: &[u8], at: usize, last: usize, table: &mut [u32], sink: Sink) -> Turn
-    requires { ⌜ HeadingOrEnd (now text) at × (at < length (now text)) × (last ≤ 200000) × (sink .count ≤ 2 * at + 2) ⌝ }
+    requires { ⌜ HeadingOrEnd (now text) at × (at < length (now text)) × (last ≤ far) × (sink .count ≤ 2 * at + 2) ⌝ }
     ensures { λ r. ⌜ (at < r .next) × (r .next ≡ nextLine isHeading (now (text .entry)) (at + length (lineAt (now (text .entry)) at))) × (r .sink .count ≤ 2 * r .next + 2) ⌝ }
     ensures { λ r. ⌜ ((hs : Earlier) → last ≡ lastIndex hs → Tracked (state (now (table .entry)) sink) hs → state (now (table .exit)) (r .sink) ≡ absorbed (state (now (table .entry)) sink) (headingEntry (now (text .entry)) hs at (sink .count))) ⌝ }
 {
@@ -113,7 +115,7 @@ pub fn read_heading(text: &[u8], at: usize, last: usize, table: &mut [u32], sink
 
 // The headings from a heading line on. `before` is the heading before them.
 pub fn read_headings(text: &[u8], from: usize, before: usize, table: &mut [u32], sink: Sink) -> Sink
-    requires { ⌜ HeadingOrEnd (now text) from × (before ≤ 200000) × (sink .count ≤ 2 * from + 2) ⌝ }
+    requires { ⌜ HeadingOrEnd (now text) from × (before ≤ far) × (sink .count ≤ 2 * from + 2) ⌝ }
     ensures { λ r. ⌜ ((hs : Earlier) → before ≡ lastIndex hs → Tracked (state (now (table .entry)) sink) hs → state (now (table .exit)) r ≡ absorbed (state (now (table .entry)) sink) (headingsFrom (now (text .entry)) hs from (sink .count))) ⌝ }
 {
     let end = text.len();
@@ -132,7 +134,7 @@ pub fn read_headings(text: &[u8], from: usize, before: usize, table: &mut [u32],
 
 // The document and the zeroth section.
 pub fn read_opening(text: &[u8], table: &mut [u32], sink: Sink) -> Turn
-    requires { ⌜ (length (now text) ≤ 65536) × (sink .count ≡ 0) ⌝ }
+    requires { ⌜ (length (now text) ≤ textLimit) × (sink .count ≡ 0) ⌝ }
     ensures { λ r. ⌜ (r .next ≡ nextLine isHeading (now (text .entry)) 0) × (r .sink .count ≤ 2 * r .next + 2) ⌝ }
     ensures { λ r. ⌜ state (now (table .exit)) (r .sink) ≡ absorbed (state (now (table .entry)) sink) (openingEntries (now (text .entry))) ⌝ }
 {
@@ -156,7 +158,7 @@ pub fn read_opening(text: &[u8], table: &mut [u32], sink: Sink) -> Turn
 
 // The whole text.
 pub fn walk(text: &[u8], table: &mut [u32], sink: Sink) -> Sink
-    requires { ⌜ (length (now text) ≤ 65536) × (sink .count ≡ 0) ⌝ }
+    requires { ⌜ (length (now text) ≤ textLimit) × (sink .count ≡ 0) ⌝ }
     ensures { λ r. ⌜ state (now (table .exit)) r ≡ absorbed (state (now (table .entry)) sink) (readingEntries (now (text .entry))) ⌝ }
 {
     let turn = read_opening(text, table, sink);

@@ -3,7 +3,8 @@ ghost use mathlib.Core.Bool.{false};
 ghost use Prim.Native.Nat.{_+_, _*_, _≤_, _<_};
 ghost use lib.ListN.{length};
 ghost use lib.Seq.{paste};
-ghost use Rattle.reading.specs.Walk.{state, sinkOf, HeadingOrEnd};
+ghost use Rattle.text.specs.Limits.{textLimit};
+ghost use Rattle.reading.specs.Walk.{state, sinkOf, HeadingOrEnd, far};
 ghost use Rattle.reading.specs.Kept.{Keeps, MayKeep, GoesOn};
 use crate::headings::read_heading;
 use crate::headings::read_headings;
@@ -54,7 +55,7 @@ fn keep_headings(text: &[u8], from: usize, count: usize, store: &mut [u32]) -> K
 
 // The first records of a text, as many as the store has room for, up to a heading line; none where the document and its own section have no room.
 pub fn keep(text: &[u8], store: &mut [u32]) -> Kept
-    requires { ⌜ length (now text) ≤ 65536 ⌝ }
+    requires { ⌜ length (now text) ≤ textLimit ⌝ }
     ensures { λ r. ⌜ MayKeep (now (text .entry)) (now (store .exit)) r ⌝ }
 {
     let sink = Sink {
@@ -75,7 +76,7 @@ pub fn keep(text: &[u8], store: &mut [u32]) -> Kept
 
 // The records after those that are kept, counted or written.
 pub fn read_on(text: &[u8], kept: Kept, table: &mut [u32], writing: bool) -> Sink
-    requires { ⌜ (length (now text) ≤ 65536) × (0 < kept .count → HeadingOrEnd (now text) (kept .at) × (kept .last ≤ 200000) × (kept .count ≤ 2 * kept .at + 2)) ⌝ }
+    requires { ⌜ (length (now text) ≤ textLimit) × (0 < kept .count → HeadingOrEnd (now text) (kept .at) × (kept .last ≤ far) × (kept .count ≤ 2 * kept .at + 2)) ⌝ }
     ensures { λ r. ⌜ GoesOn (now (text .entry)) kept (state (now (table .entry)) (sinkOf (kept .count) writing false)) (state (now (table .exit)) r) ⌝ }
 {
     let sink = Sink {

@@ -3,6 +3,8 @@ use crate::answer::Answer;
 use crate::kept::copy;
 use crate::kept::keep;
 use crate::kept::read_on;
+use crate::record;
+use text::limit;
 
 // Reads a text into a lent table, seven numbers a record. Tries in turn: the text is over 65,536 bytes; a drawer or greater block lies at
 // depth 33 or more; the table has too little room. A refusal leaves the table as it was: all is counted before anything is written. The count
@@ -10,7 +12,7 @@ use crate::kept::read_on;
 pub fn read(text: &[u8], table: &mut [u32]) -> Answer
     ensures { λ r. ⌜ Settled (now (text .entry)) (now (table .entry)) r (now (table .exit)) ⌝ }
 {
-    if 65536 < text.len() {
+    if limit::TEXT < text.len() {
         return Answer::TooLong;
     }
     let mut store = [0u32; 11550];
@@ -20,10 +22,10 @@ pub fn read(text: &[u8], table: &mut [u32]) -> Answer
         return Answer::TooDeep;
     }
     let count = counted.count;
-    if table.len() / 7 < count {
+    if table.len() / record::SIZE < count {
         return Answer::NoRoom(count);
     }
-    copy(&store, kept.count * 7, table);
+    copy(&store, kept.count * record::SIZE, table);
     read_on(text, kept, table, true);
     Answer::Done(count)
 }

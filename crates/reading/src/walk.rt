@@ -2,13 +2,14 @@ ghost use mathlib.Core.Path.{_≡_};
 ghost use mathlib.Core.Bool.{false};
 ghost use Prim.Native.Nat.{_+_, _*_, _≤_, _<_};
 ghost use lib.ListN.{length};
+ghost use Rattle.text.specs.Limits.{depthLimit, textLimit};
 ghost use Rattle.text.specs.Parts.{linesIn, nextLine, LineStart};
 ghost use Rattle.rules.specs.Headings.{isHeading};
 ghost use Rattle.rules.specs.Places.{placeAt};
 ghost use Rattle.rules.specs.Findings.{LineOf, NoEnd};
 ghost use Rattle.reading.specs.Makers.{childRecord};
 ghost use Rattle.reading.specs.Nesting.{depthIn};
-ghost use Rattle.reading.specs.Walk.{state, absorbed, entriesFrom, elementsTo, linesTo, sectionOf, sectionEntries};
+ghost use Rattle.reading.specs.Walk.{state, absorbed, entriesFrom, elementsTo, linesTo, sectionOf, sectionEntries, far};
 ghost use Rattle.reading.specs.Walk.{Range, ElementIn, StepAt, recordOf, withHeld, nextPlace, firstPlace};
 use crate::record::Record;
 use crate::sink::Sink;
@@ -71,8 +72,8 @@ fn read_lines(
     table: &mut [u32],
     sink: Sink,
 ) -> Sink
-    requires { ⌜ (from ≤ to) × (to ≤ length (now text)) × (to ≤ 65536) × (parent ≤ 200000) × (sink .count ≤ 2 * from + 3) ⌝ }
-    requires { ⌜ (lines ≡ length (linesIn (now text) from to)) × (depth ≤ 32) × (sink .stopped ≡ false) ⌝ }
+    requires { ⌜ (from ≤ to) × (to ≤ length (now text)) × (to ≤ textLimit) × (parent ≤ far) × (sink .count ≤ 2 * from + 3) ⌝ }
+    requires { ⌜ (lines ≡ length (linesIn (now text) from to)) × (depth ≤ depthLimit) × (sink .stopped ≡ false) ⌝ }
     ensures { λ r. ⌜ state (now (table .exit)) r ≡ absorbed (state (now (table .entry)) sink) (entriesFrom (now (text .entry)) (linesTo rows to) parent depth from (sink .count)) ⌝ }
     ensures { λ r. ⌜ r .count + from ≤ sink .count + to ⌝ }
 {
@@ -120,7 +121,7 @@ fn next_place(place: Place, kind: usize, tight: bool) -> Place
 
 // The depth of an element of a kind in a container of a depth.
 fn depth_in(depth: usize, kind: usize) -> usize
-    requires { ⌜ depth ≤ 32 ⌝ }
+    requires { ⌜ depth ≤ depthLimit ⌝ }
     ensures { λ r. ⌜ r ≡ depthIn depth kind ⌝ }
 {
     if kind == kind::DRAWER || kind == kind::GREATER_BLOCK {
@@ -177,7 +178,7 @@ fn read_elements(
     table: &mut [u32],
     sink: Sink,
 ) -> Sink
-    requires { ⌜ Range (now text) from to × (from < to → place ≡ placeAt (now text) from) × (depth ≤ 32) × (parent ≤ 200000) × (sink .count ≤ 2 * from + 2) ⌝ }
+    requires { ⌜ Range (now text) from to × (from < to → place ≡ placeAt (now text) from) × (depth ≤ depthLimit) × (parent ≤ far) × (sink .count ≤ 2 * from + 2) ⌝ }
     ensures { λ r. ⌜ state (now (table .exit)) r ≡ absorbed (state (now (table .entry)) sink) (entriesFrom (now (text .entry)) (elementsTo to) parent depth from (sink .count)) ⌝ }
     ensures { λ r. ⌜ r .count + 2 * from ≤ sink .count + 2 * to ⌝ }
 {
@@ -209,7 +210,7 @@ fn read_element(
     table: &mut [u32],
     sink: Sink,
 ) -> Sink
-    requires { ⌜ ElementIn (now text) at end e × (depth ≤ 32) × (parent ≤ 200000) × (sink .count ≤ 2 * at + 2) ⌝ }
+    requires { ⌜ ElementIn (now text) at end e × (depth ≤ depthLimit) × (parent ≤ far) × (sink .count ≤ 2 * at + 2) ⌝ }
     ensures { λ r. ⌜ state (now (table .exit)) r ≡ absorbed (state (now (table .entry)) sink) (withHeld (now (text .entry)) (recordOf at end e parent) (sink .count) depth) ⌝ }
     ensures { λ r. ⌜ r .count + 2 * at ≤ sink .count + 2 * end ⌝ }
 {
@@ -273,7 +274,7 @@ pub fn read_section(
     table: &mut [u32],
     sink: Sink,
 ) -> Sink
-    requires { ⌜ (from ≤ length (now text)) × (length (now text) ≤ 65536) × LineStart (now text) from × (to ≡ nextLine isHeading (now text) from) × (place ≡ placeAt (now text) from) × (parent ≤ 200000) × (sink .count ≤ 2 * from + 1) ⌝ }
+    requires { ⌜ (from ≤ length (now text)) × (length (now text) ≤ textLimit) × LineStart (now text) from × (to ≡ nextLine isHeading (now text) from) × (place ≡ placeAt (now text) from) × (parent ≤ far) × (sink .count ≤ 2 * from + 1) ⌝ }
     ensures { λ r. ⌜ state (now (table .exit)) r ≡ absorbed (state (now (table .entry)) sink) (sectionEntries (now (text .entry)) (sectionOf from) parent (sink .count)) ⌝ }
     ensures { λ r. ⌜ r .count + 2 * from ≤ sink .count + 2 * to + 1 ⌝ }
 {

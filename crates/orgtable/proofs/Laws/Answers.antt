@@ -8,14 +8,16 @@ use lib.ListN.{length}
 use lib.Dec.{leb}
 use borrow.Author.Tests.{leb-true}
 use borrow.Table.Steps.{cases}
+use Rattle.reading.specs.Records.{recordSize}
+use Rattle.text.specs.Limits.{textLimit, depthLimit}
 use Rattle.reading.specs.declared.answer.Answer.{Answer}
 use Rattle.reading.specs.declared.record.Record.{Record}
 use Rattle.reading.specs.Nesting.{nesting}
-use Rattle.reading.specs.Answers.{textLimit, depthLimit, room, answerFor, answer, number, count}
+use Rattle.reading.specs.Answers.{room, answerFor, answer, number, count}
 use Rattle.reading.specs.Promises.{Settled}
 use Rattle.orgtable.specs.Printed.{printed, printedText, shown}
 
-answerFor-shown : (s : List ℕ) (R : List Record) (t : List ℕ) → shown (answerFor s R t) * 7 ≤ length t
+answerFor-shown : (s : List ℕ) (R : List Record) (t : List ℕ) → shown (answerFor s R t) * recordSize ≤ length t
 unfolding answerFor
 answerFor-shown s R t =
     cases (leb (length s) textLimit)
@@ -26,7 +28,7 @@ answerFor-shown s R t =
 
 -- of a reading call with text s and table t, which answered a and left t′
 module _ (s t : List ℕ) (a : Answer) (t′ : List ℕ) (h : Settled s t a t′) where
-  pub settled-shown : shown a * 7 ≤ length t
+  pub settled-shown : shown a * recordSize ≤ length t
   settled-shown = rw (h .answers) (answerFor-shown s (h .table) t)
 
   pub settled-printed : printed (number a) (count a) t′ ≡ printedText s t

@@ -7,6 +7,7 @@ use native.Mathlib.Numerals.{add-one}
 use native.Mathlib.Omega.{arith}
 use lib.ListN.{length, take, drop, getD}
 use lib.Seq.{take-suc, slice, slice-cons, slice-empty, drop-drop}
+use Rattle.reading.specs.Records.{recordSize}
 use Rattle.text.proofs.Basics.{take-drop}
 use Rattle.text.specs.Runs.{word}
 use Rattle.orgtable.specs.Printed.{newline, space, decimal, line, recordLines, refused}
@@ -36,13 +37,13 @@ module _ (t : List ℕ) (i e : ℕ) (x x₁ w : List ℕ) (all : x ++ line (slic
       rw one (simp append-assoc last)
 
 -- of the lines of n records, x is put, those before record i; x₁ with record i
-module _ (t : List ℕ) (i n : ℕ) (x w : List ℕ) (all : x ++ recordLines (n - i) (drop (i * 7) t) ≡ w) where
-  pub lines-turn : (x₁ : List ℕ) → i < n → x₁ ≡ x ++ line (slice (i * 7) (i * 7 + 7) t) → x₁ ++ recordLines (n - (i + 1)) (drop ((i + 1) * 7) t) ≡ w
+module _ (t : List ℕ) (i n : ℕ) (x w : List ℕ) (all : x ++ recordLines (n - i) (drop (i * recordSize) t) ≡ w) where
+  pub lines-turn : (x₁ : List ℕ) → i < n → x₁ ≡ x ++ line (slice (i * recordSize) (i * recordSize + recordSize) t) → x₁ ++ recordLines (n - (i + 1)) (drop ((i + 1) * recordSize) t) ≡ w
   unfolding recordLines
   lines-turn x₁ h one =
       let e : n - i ≡ suc (n - (i + 1)) = omega arith in
-      let f : (i + 1) * 7 ≡ i * 7 + 7 = omega arith in
-      let more = rw (e, drop-drop 7 (i * 7) t, take-drop 7 (i * 7) t) at all in
+      let f : (i + 1) * recordSize ≡ i * recordSize + recordSize = omega arith in
+      let more = rw (e, drop-drop recordSize (i * recordSize) t, take-drop recordSize (i * recordSize) t) at all in
       rw (one, f) (simp append-assoc more)
 
   pub lines-end : n ≤ i → x ≡ w

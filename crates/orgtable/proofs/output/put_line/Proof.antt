@@ -9,6 +9,7 @@ use native.Mathlib.Omega.{arith}
 use borrow.Author.Needs.{needs}
 use lib.ListN.{length, take}
 use lib.Seq.{slice}
+use Rattle.reading.specs.Records.{recordSize}
 use Rattle.orgtable.specs.Printed.{line}
 use Rattle.orgtable.proofs.Laws.Lines.{line-turn, line-end}
 use Rattle.orgtable.proofs.output.put_line.Statement.{statement}
@@ -16,11 +17,11 @@ use Rattle.orgtable.proofs.output.put_line.Tie as tie
 
 abbrev Inv-loop : tie.InvT-loop
 Inv-loop out₀ used table at end₀ i₀ out end i =
-    (at ≤ i) × (i ≤ at + 6) × (length out ≡ length out₀) × (end + 11 * (at + 7 - i) ≤ used + 77)
-    × (take end out ++ line (slice i (at + 7) table) ≡ take used out₀ ++ line (slice at (at + 7) table))
+    (at ≤ i) × (i ≤ at + 6) × (length out ≡ length out₀) × (end + 11 * (at + recordSize - i) ≤ used + 77)
+    × (take end out ++ line (slice i (at + recordSize) table) ≡ take used out₀ ++ line (slice at (at + recordSize) table))
 
 abbrev μ-loop : tie.MeasureT-loop
-μ-loop out₀ used table at end₀ i₀ out end i = at + 7 - i
+μ-loop out₀ used table at end₀ i₀ out end i = at + recordSize - i
 
 loop-again : tie.Need-loop-again Inv-loop μ-loop
 loop-again c =
@@ -32,7 +33,7 @@ loop-again c =
       omega arith,
       put .kept .0 ∙ inv .2,
       omega arith,
-      line-turn (start .args .table .now) (at-loop .loop .i) (start .args .at + 7)
+      line-turn (start .args .table .now) (at-loop .loop .i) (start .args .at + recordSize)
           (take (at-loop .loop .end) (at-loop .loop .out)) _ _ (inv .4) (omega arith) (omega arith) (put .ensures .0),
     )
 
@@ -43,7 +44,7 @@ returns : tie.Need-returns Inv-loop μ-loop
 returns c =
     let at-loop = c .before .before .before .before .before .before in
     let start = at-loop .before .before .before in (
-      line-end (start .args .table .now) (at-loop .loop .i) (start .args .at + 7)
+      line-end (start .args .table .now) (at-loop .loop .i) (start .args .at + recordSize)
           (take (at-loop .loop .end) (at-loop .loop .out)) _ _ (at-loop .loop .inv .4) (omega arith) (omega arith) (c .before .before .put-cell2 .ensures .0),
       omega arith,
     )

@@ -8,6 +8,7 @@ use Prim.Native.Nat.{_+_, _-_, _*_, _≤_}
 use native.Mathlib.Nat.{sub-zero}
 use native.Mathlib.Omega.{arith}
 use lib.ListN.{length, take, drop}
+use Rattle.reading.specs.Records.{recordSize}
 use Rattle.orgtable.specs.Printed.{recordLines}
 use Rattle.orgtable.proofs.Laws.Lines.{lines-turn, lines-end}
 use Rattle.orgtable.proofs.output.put_table.Statement.{statement}
@@ -16,7 +17,7 @@ use Rattle.orgtable.proofs.output.put_table.Tie as tie
 abbrev Inv-loop : tie.InvT-loop
 Inv-loop out₀ table count used₀ i₀ out used i =
     (i ≤ count) × (length out ≡ length out₀) × (used + 77 * (count - i) ≤ length out)
-    × (take used out ++ recordLines (count - i) (drop (i * 7) table) ≡ recordLines count table)
+    × (take used out ++ recordLines (count - i) (drop (i * recordSize) table) ≡ recordLines count table)
 
 abbrev μ-loop : tie.MeasureT-loop
 μ-loop out₀ table count used₀ i₀ out used i = count - i

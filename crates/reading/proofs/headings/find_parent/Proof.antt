@@ -4,6 +4,7 @@
 use mathlib.Core.Path.{_≡_, refl, sym, _∙_}
 use Prim.Native.Nat.{_+_, _*_, _≤_}
 use native.Mathlib.Omega.{arith}
+use Rattle.reading.specs.Records.{detailPlace, parentPlace, recordSize}
 use Rattle.reading.specs.Tracked.{parentIn}
 use Rattle.reading.proofs.Laws.Parents.{parent-zero, parent-short, parent-here, parent-stuck, parent-step}
 use Rattle.reading.proofs.headings.find_parent.Statement.{statement}
@@ -19,7 +20,7 @@ returns : tie.Need-returns Inv-loop μ-loop
 returns c = (sym (parent-short _ _ _ (c .if1 .taken)) ∙ c .before .before .loop .inv .1, omega arith)
 
 cast-if2 : tie.Need-cast-if2 Inv-loop μ-loop
-cast-if2 c = omega (arith, c .shared-slice-known .given (c .before .before .before .loop .at * 7 + 6))
+cast-if2 c = omega (arith, c .shared-slice-known .given (c .before .before .before .loop .at * recordSize + detailPlace))
 
 returns-2 : tie.Need-returns-2 Inv-loop μ-loop
 returns-2 c =
@@ -28,7 +29,7 @@ returns-2 c =
     (sym (parent-here _ _ _ (at-test .loop-test .taken) (at-row .if1 .left) (c .if2 .taken)) ∙ at-test .before .loop .inv .1, omega arith)
 
 cast-parent : tie.Need-cast-parent Inv-loop μ-loop
-cast-parent c = omega (arith, c .shared-slice-known2 .given (c .before .before .before .before .before .loop .at * 7 + 5))
+cast-parent c = omega (arith, c .shared-slice-known2 .given (c .before .before .before .before .before .loop .at * recordSize + parentPlace))
 
 returns-3 : tie.Need-returns-3 Inv-loop μ-loop
 returns-3 c =

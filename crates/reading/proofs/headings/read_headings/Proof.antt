@@ -10,7 +10,7 @@ use lib.ListN.{length}
 use borrow.Author.Needs.{needs}
 use Rattle.rules.specs.Headings.{stars}
 use Rattle.reading.specs.Sections.{lineAt}
-use Rattle.reading.specs.Walk.{State, state, absorbed, headingsFrom, HeadingOrEnd}
+use Rattle.reading.specs.Walk.{State, state, absorbed, headingsFrom, HeadingOrEnd, far}
 use Rattle.reading.specs.Tracked.{Earlier, lastIndex, Tracked}
 use Rattle.reading.proofs.Laws.SectionPlaces.{heading-after}
 use Rattle.reading.proofs.Laws.Tracked.{tracked-entry}
@@ -27,7 +27,7 @@ record Way (s : List ℕ) (from : ℕ) (hs : Earlier) (st₀ : State) (p last : 
 
 record Reached (s : List ℕ) (from before : ℕ) (st₀ : State) (p last : ℕ) (st : State) : Type 0 where
   here : HeadingOrEnd s p
-  small : last ≤ 200000
+  small : last ≤ far
   count : st .sink .count ≤ 2 * p + 2
   size : length (st .tab) ≡ length (st₀ .tab)
   way : (hs : Earlier) → before ≡ lastIndex hs → Tracked st₀ hs → Way s from hs st₀ p last st

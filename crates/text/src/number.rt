@@ -1,0 +1,16 @@
+// The numbers of an answer, as specs/Number has them.
+pub const DONE: u32 = 0;
+
+pub const TOO_LONG: u32 = 1;
+
+pub const TOO_DEEP: u32 = 2;
+
+pub const NO_ROOM: u32 = 3;
+
+pub const NO_HEADING: u32 = 4;
+
+pub const NO_DRAWER: u32 = 5;
+
+pub const NO_KEY: u32 = 6;
+
+pub const BAD_KEY: u32 = 7;
