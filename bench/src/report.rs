@@ -31,6 +31,7 @@ pub fn print() {
         "{:<16}{:>7}{:>9}{:>10}{:>8}{:>8}{:>10}{:>12}{:>12}",
         "text", "bytes", "records", "read", "count", "vector", "plain", "read/count", "read/plain"
     );
+    print_row(&texts::one_order());
     for size in SIZES {
         for text in texts::ordinary(size) {
             print_row(&text);

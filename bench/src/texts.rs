@@ -20,6 +20,14 @@ pub fn ordinary(size: usize) -> [Text; 2] {
     ]
 }
 
+/// A single small order, as a host reads it that takes a book apart.
+pub fn one_order() -> Text {
+    Text {
+        name: "one order",
+        bytes: b"* A\n:PROPERTIES:\n:VIN: 7\n:END:\n\nhi\n".to_vec(),
+    }
+}
+
 /// The order book that ships with the program. Its lines are shorter and more mixed than
 /// those of the made one: many keywords, blocks and stars in the text.
 pub fn shipped() -> Text {
