@@ -8,8 +8,8 @@ use Rattle.text.specs.Number
 use Rattle.text.specs.Runs.{word}
 use Rattle.reading.specs.declared.answer.Answer.{Answer}
 use Rattle.reading.specs.declared.answer.Answer.the-variants.{Done, TooLong, TooDeep, NoRoom}
-use Rattle.reading.specs.Records.{recordSize}
-use Rattle.reading.specs.Reading.{reading}
+use Rattle.table.specs.Records.{recordSize}
+use Rattle.table.specs.Reading.{reading}
 use Rattle.reading.specs.Answers.{answer, number, count, leaves, OpenAnswers}
 
 abbrev pub newline : ℕ

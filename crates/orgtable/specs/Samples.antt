@@ -5,8 +5,9 @@ use Prim.Native.String.{String}
 use lib.ListN.{length, replicate}
 use Rattle.text.specs.Runs.{word}
 use Rattle.text.specs.Cases.{Case, case, OpenCases}
-use Rattle.reading.specs.Records.{rec, recordSize}
-use Rattle.reading.specs.Cases.{_reads_, _kinds_, _room_answers_with_, OpenReadingCases}
+use Rattle.table.specs.Records.{rec, recordSize}
+use Rattle.table.specs.Cases.{_reads_, _kinds_, OpenTableCases}
+use Rattle.reading.specs.Cases.{_room_answers_with_, OpenReadingCases}
 use Rattle.lookup.specs.Pinned.{_at_key_answers_from_to_, OpenLookupCases}
 use Rattle.orgtable.specs.Printed.{printed, printedText, OpenPrinted}
 
@@ -70,5 +71,5 @@ samples =
 
 -- opens the samples and what they are samples of
 unfoldable pub OpenSamples : Type 1
-unfolding OpenCases OpenReadingCases OpenLookupCases OpenPrinted _bytes_ _room_prints_ _returning_refuses_ samples
+unfolding OpenCases OpenTableCases OpenReadingCases OpenLookupCases OpenPrinted _bytes_ _room_prints_ _returning_refuses_ samples
 OpenSamples = Type 0

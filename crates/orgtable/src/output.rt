@@ -5,7 +5,7 @@ ghost use lib.ListN.{length, take};
 ghost use lib.Seq.{slice};
 ghost use Rattle.text.specs.Runs.{word};
 ghost use Rattle.text.specs.Limits.{textLimit};
-ghost use Rattle.reading.specs.Records.{recordSize};
+ghost use Rattle.table.specs.Records.{recordSize};
 ghost use Rattle.reading.specs.Answers.{number, count};
 ghost use Rattle.orgtable.specs.Input.{InputWithin, printedInput};
 ghost use Rattle.orgtable.specs.Printed.{decimal, line, recordLines, refused, printed, printedText, shown, cellSize, lineSize};
@@ -14,7 +14,7 @@ use libc::STDERR_FILENO;
 use libc::STDOUT_FILENO;
 use reading::answer::Answer;
 use reading::read::read;
-use reading::record;
+use table::record;
 use text::number;
 
 // One byte more after those in use, and how many are then in use.

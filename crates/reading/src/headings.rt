@@ -6,10 +6,8 @@ ghost use Rattle.text.specs.Parts.{nextLine};
 ghost use Rattle.rules.specs.Headings.{isHeading};
 ghost use Rattle.reading.specs.Walk.{state, absorbed, openingEntries, headingEntry, headingsFrom, readingEntries, Small, HeadingLine, HeadingOrEnd, far};
 ghost use Rattle.reading.specs.Tracked.{parentIn, Earlier, lastIndex, Tracked};
-ghost use Rattle.reading.specs.Sections.{lineAt};
-ghost use Rattle.reading.specs.Makers.{headingRecord};
-use crate::record;
-use crate::record::Record;
+ghost use Rattle.table.specs.Sections.{lineAt};
+ghost use Rattle.table.specs.Makers.{headingRecord};
 use crate::sink::Sink;
 use crate::sink::emit;
 use crate::walk::read_section;
@@ -17,6 +15,8 @@ use rules::heading::heading_stars;
 use rules::heading::next_heading;
 use rules::kind;
 use rules::place::Place;
+use table::record;
+use table::record::Record;
 use text::line::line_end;
 
 // From a heading record of the table up its parents to the first with fewer stars; 0, the document, where there is none.

@@ -6,7 +6,7 @@ use crate::answer::Answer;
 use crate::kept::copy;
 use crate::kept::keep;
 use crate::kept::read_on;
-use crate::record;
+use table::record;
 use text::limit;
 
 // A text of at most so many bytes is small: its store, which each call clears, has room for 256 records, and that of any other for 1,650.

@@ -4,10 +4,10 @@ ghost use Prim.Native.Nat.{_+_, _*_, _≤_};
 ghost use lib.ListN.{length};
 ghost use lib.Seq.{sets};
 ghost use Rattle.text.specs.Limits.{depthLimit};
-ghost use Rattle.reading.specs.Records.{numbersOf, recordSize};
+ghost use Rattle.table.specs.Records.{numbersOf, recordSize};
 ghost use Rattle.reading.specs.Walk.{Small, state, absorb, entry, far};
-use crate::record;
-use crate::record::Record;
+use table::record;
+use table::record::Record;
 use text::limit;
 
 // The end of every record stream: it counts the records, writes them in the writing mode, and once stopped takes no more.

@@ -8,11 +8,11 @@ use lib.ListN.{length}
 use lib.Dec.{leb}
 use borrow.Author.Tests.{leb-true}
 use borrow.Table.Steps.{cases}
-use Rattle.reading.specs.Records.{recordSize}
+use Rattle.table.specs.Records.{recordSize}
 use Rattle.text.specs.Limits.{textLimit, depthLimit}
 use Rattle.reading.specs.declared.answer.Answer.{Answer}
-use Rattle.reading.specs.declared.record.Record.{Record}
-use Rattle.reading.specs.Nesting.{nesting}
+use Rattle.table.specs.declared.record.Record.{Record}
+use Rattle.table.specs.Nesting.{nesting}
 use Rattle.reading.specs.Answers.{room, answerFor, answer, number, count}
 use Rattle.reading.specs.Promises.{Settled}
 use Rattle.orgtable.specs.Printed.{printed, printedText, shown}

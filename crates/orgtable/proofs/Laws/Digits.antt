@@ -8,7 +8,7 @@ use native.Mathlib.Omega.{arith}
 use lib.ListN.{length, length-append}
 use borrow.Author.Tests.{lt-ltb, le-ltb}
 use Rattle.io.specs.Digits.{digits, glyph, Fewest}
-use Rattle.reading.proofs.Basics.{split}
+use Rattle.table.proofs.Basics.{split}
 use Rattle.orgtable.specs.Printed.{digit, digitsUpTo, decimal}
 
 digits-here : (k n : ℕ) → n < 10 → digitsUpTo k n ≡ digit n ∷ []

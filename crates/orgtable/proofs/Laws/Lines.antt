@@ -7,7 +7,7 @@ use native.Mathlib.Numerals.{add-one}
 use native.Mathlib.Omega.{arith}
 use lib.ListN.{length, take, drop, getD}
 use lib.Seq.{take-suc, slice, slice-cons, slice-empty, drop-drop}
-use Rattle.reading.specs.Records.{recordSize}
+use Rattle.table.specs.Records.{recordSize}
 use Rattle.text.proofs.Basics.{take-drop}
 use Rattle.text.specs.Runs.{word}
 use Rattle.orgtable.specs.Printed.{newline, space, decimal, line, recordLines, refused}

@@ -9,7 +9,7 @@ use native.Mathlib.Omega.{arith}
 use borrow.Author.Needs.{needs}
 use lib.ListN.{length, take}
 use lib.Seq.{slice}
-use Rattle.reading.specs.Records.{recordSize}
+use Rattle.table.specs.Records.{recordSize}
 use Rattle.orgtable.specs.Printed.{line}
 use Rattle.orgtable.proofs.Laws.Lines.{line-turn, line-end}
 use Rattle.orgtable.proofs.output.put_line.Statement.{statement}

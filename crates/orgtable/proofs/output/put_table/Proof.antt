@@ -8,7 +8,7 @@ use Prim.Native.Nat.{_+_, _-_, _*_, _≤_}
 use native.Mathlib.Nat.{sub-zero}
 use native.Mathlib.Omega.{arith}
 use lib.ListN.{length, take, drop}
-use Rattle.reading.specs.Records.{recordSize}
+use Rattle.table.specs.Records.{recordSize}
 use Rattle.orgtable.specs.Printed.{recordLines}
 use Rattle.orgtable.proofs.Laws.Lines.{lines-turn, lines-end}
 use Rattle.orgtable.proofs.output.put_table.Statement.{statement}

@@ -4,7 +4,7 @@
 use mathlib.Core.Path.{_≡_, refl, sym, _∙_}
 use Prim.Native.Nat.{_+_, _*_, _≤_}
 use native.Mathlib.Omega.{arith}
-use Rattle.reading.specs.Records.{detailPlace, parentPlace, recordSize}
+use Rattle.table.specs.Records.{detailPlace, parentPlace, recordSize}
 use Rattle.reading.specs.Tracked.{parentIn}
 use Rattle.reading.proofs.Laws.Parents.{parent-zero, parent-short, parent-here, parent-stuck, parent-step}
 use Rattle.reading.proofs.headings.find_parent.Statement.{statement}

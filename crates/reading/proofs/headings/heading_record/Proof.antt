@@ -6,7 +6,7 @@ use Prim.Native.Nat.{ℕ}
 use borrow.Author.Needs.{needs}
 use Rattle.text.proofs.Laws.LinesIn.{nextLine-to}
 use Rattle.rules.specs.Headings.{isHeadingUpTo}
-use Rattle.reading.specs.Makers.{headingRecord}
+use Rattle.table.specs.Makers.{headingRecord}
 use Rattle.reading.proofs.Laws.SectionPlaces.{heading-record, headingLine-order}
 use Rattle.reading.proofs.headings.heading_record.Statement.{statement}
 use Rattle.reading.proofs.headings.heading_record.Tie as tie

@@ -9,13 +9,13 @@ use borrow.Author.Needs.{needs}
 use Rattle.text.specs.Parts.{nextLine}
 use Rattle.rules.specs.Headings.{isHeading, stars}
 use Rattle.rules.proofs.Laws.Headings.{nextLine-upTo}
-use Rattle.reading.specs.declared.record.Record.{Record}
-use Rattle.reading.specs.Sections.{lineAt}
-use Rattle.reading.specs.Makers.{headingRecord}
-use Rattle.reading.specs.Reading.{nearest}
+use Rattle.table.specs.declared.record.Record.{Record}
+use Rattle.table.specs.Sections.{lineAt}
+use Rattle.table.specs.Makers.{headingRecord}
+use Rattle.table.specs.Reading.{nearest}
 use Rattle.reading.specs.Walk.{State, state, entry, absorb, HeadingLine}
 use Rattle.reading.specs.Tracked.{Earlier, lastIndex, Tracked}
-use Rattle.reading.proofs.Basics.{on}
+use Rattle.table.proofs.Basics.{on}
 use Rattle.reading.proofs.Laws.Absorb.{absorb-any}
 use Rattle.reading.proofs.Laws.SectionPlaces.{heading-stars, heading-line, heading-start, heading-place, headingLine-order}
 use Rattle.reading.proofs.Laws.Tracked.{tracked-heading}

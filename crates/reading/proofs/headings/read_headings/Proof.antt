@@ -9,7 +9,7 @@ use native.Mathlib.Omega.{arith}
 use lib.ListN.{length}
 use borrow.Author.Needs.{needs}
 use Rattle.rules.specs.Headings.{stars}
-use Rattle.reading.specs.Sections.{lineAt}
+use Rattle.table.specs.Sections.{lineAt}
 use Rattle.reading.specs.Walk.{State, state, absorbed, headingsFrom, HeadingOrEnd, far}
 use Rattle.reading.specs.Tracked.{Earlier, lastIndex, Tracked}
 use Rattle.reading.proofs.Laws.SectionPlaces.{heading-after}

@@ -6,7 +6,7 @@ use native.Mathlib.Numerals.{add-one}
 use borrow.Author.Needs.{needs}
 use borrow.Author.Tests.{eq-eqb, ne-eqb}
 use Rattle.rules.specs.Kind
-use Rattle.reading.specs.Nesting.{countsDepth, depthIn}
+use Rattle.table.specs.Nesting.{countsDepth, depthIn}
 use Rattle.reading.proofs.walk.depth_in.Statement.{statement}
 use Rattle.reading.proofs.walk.depth_in.Tie as tie
 

@@ -1,0 +1,5 @@
+pub mod Records
+pub mod Sections
+pub mod Makers
+pub mod Proper
+pub mod Reading

@@ -1,0 +1,5 @@
+pub mod Basics
+pub mod Laws
+pub mod Proper
+pub mod Promises
+pub mod Pinned

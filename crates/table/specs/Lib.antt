@@ -1,0 +1,9 @@
+pub mod Records
+pub mod Sections
+pub mod Proper
+pub mod Makers
+pub mod Reading
+pub mod Nesting
+pub mod Promises
+pub mod Cases
+pub mod Pinned

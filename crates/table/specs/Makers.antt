@@ -1,0 +1,80 @@
+-- The record that stands at a byte of a container's inner span.
+use mathlib.Core.Bool.{true, false}
+use mathlib.Core.List.{List}
+use Prim.Native.Nat.{ℕ, _+_}
+use lib.ListN.{length, take, drop}
+use lib.Dec.{eqb}
+use Rattle.text.specs.Lines.{Line, size, headLine, blanks}
+use Rattle.text.specs.Parts.{linesIn, nextLine}
+use Rattle.rules.specs.Kind
+use Rattle.rules.specs.Headings.{isHeadingUpTo, stars}
+use Rattle.rules.specs.Elements.{elementAt}
+use Rattle.rules.specs.Spans.{innerOf, innerFrom, innerTo, OpenSpans}
+use Rattle.table.specs.declared.record.Record.{Record}
+use Rattle.table.specs.Sections.{lineAt, sectionStart, sectionEnd, rowDetail, OpenSections}
+
+-- Below, q is the parent's index, p the byte at which the record starts, and e its container's inner end.
+
+abbrev pub documentRecord : List ℕ → Record
+documentRecord s = record { kind = Kind.document; start = 0; end = length s; from = 0; to = length s; parent = 0; detail = 0 }
+
+-- It ends before the next heading line with as many stars or fewer, or at the text's end.
+unfoldable pub headingRecord : List ℕ → ℕ → ℕ → Record
+headingRecord s q p =
+    let l = lineAt s p in
+    let i = p + length l in
+    let e = nextLine (isHeadingUpTo (stars l)) s i in
+    record { kind = Kind.heading; start = p; end = e; from = i; to = e; parent = q; detail = stars l }
+
+-- the section of the document or heading c
+unfoldable pub sectionRecord : List ℕ → Record → ℕ → Record
+sectionRecord s c q =
+    let a = sectionStart s c in
+    let e = sectionEnd s c in
+    record { kind = Kind.section; start = a; end = e; from = a; to = e; parent = q; detail = 0 }
+
+-- Blank lines after an element, before the end, are the element's.
+unfoldable pub elementRecord : List ℕ → ℕ → ℕ → ℕ → Record
+elementRecord s e q p =
+    let ls = linesIn s p e in
+    let f = elementAt s p e in
+    let n = f .own in
+    let b = p + size (take (n + blanks (drop n ls)) ls) in
+    record {
+      kind = f .kind;
+      start = p;
+      end = b;
+      from = innerFrom (innerOf (f .kind)) p ls;
+      to = innerTo (innerOf (f .kind)) p b ls n;
+      parent = q;
+      detail = f .detail;
+    }
+
+-- A node property or row spans its line.
+unfoldable pub lineRecord : ℕ → (Line → ℕ) → List ℕ → ℕ → ℕ → ℕ → Record
+lineRecord k d s e q p =
+    let ls = linesIn s p e in
+    let b = p + size (take 1 ls) in
+    record {
+      kind = k;
+      start = p;
+      end = b;
+      from = innerFrom (innerOf k) p ls;
+      to = innerTo (innerOf k) p b ls 1;
+      parent = q;
+      detail = d (headLine ls);
+    }
+
+-- what stands at byte p of a property drawer, a table, or a section, drawer or greater block
+unfoldable pub childRecord : List ℕ → Record → ℕ → ℕ → Record
+childRecord s c q p =
+    elim (eqb (c .kind) Kind.propertyDrawer) [
+      | true ↦ lineRecord Kind.nodeProperty (λ l. 0) s (c .to) q p
+      | false ↦ elim (eqb (c .kind) Kind.table)
+          [ true ↦ lineRecord Kind.row rowDetail s (c .to) q p | false ↦ elementRecord s (c .to) q p ]
+    ]
+
+-- opens the definitions of this file and of those it stands on, for computed examples
+unfoldable pub OpenMakers : Type 1
+unfolding OpenSpans OpenSections headingRecord sectionRecord elementRecord lineRecord childRecord
+OpenMakers = Type 0
