@@ -4,7 +4,7 @@ ghost use lib.ListN.{length};
 ghost use Rattle.text.specs.Limits.{textLimit};
 ghost use Rattle.text.specs.Parts.{nextLine};
 ghost use Rattle.rules.specs.Headings.{isHeading};
-ghost use Rattle.reading.specs.Walk.{state, absorbed, openingEntries, headingEntry, headingsFrom, readingEntries, Small, HeadingLine, HeadingOrEnd, far};
+ghost use Rattle.reading.specs.Walk.{state, Takes, openingEntries, headingEntry, headingsFrom, readingEntries, Small, HeadingLine, HeadingOrEnd, far};
 ghost use Rattle.reading.specs.Tracked.{parentIn, Earlier, lastIndex, Tracked};
 ghost use Rattle.table.specs.Sections.{lineAt};
 ghost use Rattle.table.specs.Makers.{headingRecord};
@@ -94,7 +94,7 @@ pub struct Turn {
 pub fn read_heading(text: &[u8], at: usize, last: usize, table: &mut [u32], sink: Sink) -> Turn
     requires { ⌜ HeadingOrEnd (now text) at × (at < length (now text)) × (last ≤ far) × (sink .count ≤ 2 * at + 2) ⌝ }
     ensures { λ r. ⌜ (at < r .next) × (r .next ≡ nextLine isHeading (now (text .entry)) (at + length (lineAt (now (text .entry)) at))) × (r .sink .count ≤ 2 * r .next + 2) ⌝ }
-    ensures { λ r. ⌜ ((hs : Earlier) → last ≡ lastIndex hs → Tracked (state (now (table .entry)) sink) hs → state (now (table .exit)) (r .sink) ≡ absorbed (state (now (table .entry)) sink) (headingEntry (now (text .entry)) hs at (sink .count))) ⌝ }
+    ensures { λ r. ⌜ ((hs : Earlier) → last ≡ lastIndex hs → Tracked (state (now (table .entry)) sink) hs → Takes (now (table .entry)) sink (headingEntry (now (text .entry)) hs at (sink .count)) (now (table .exit)) (r .sink)) ⌝ }
 {
     let end = text.len();
     let stars = heading_stars(text, at, end);
@@ -116,7 +116,7 @@ pub fn read_heading(text: &[u8], at: usize, last: usize, table: &mut [u32], sink
 // The headings from a heading line on. `before` is the heading before them.
 pub fn read_headings(text: &[u8], from: usize, before: usize, table: &mut [u32], sink: Sink) -> Sink
     requires { ⌜ HeadingOrEnd (now text) from × (before ≤ far) × (sink .count ≤ 2 * from + 2) ⌝ }
-    ensures { λ r. ⌜ ((hs : Earlier) → before ≡ lastIndex hs → Tracked (state (now (table .entry)) sink) hs → state (now (table .exit)) r ≡ absorbed (state (now (table .entry)) sink) (headingsFrom (now (text .entry)) hs from (sink .count))) ⌝ }
+    ensures { λ r. ⌜ ((hs : Earlier) → before ≡ lastIndex hs → Tracked (state (now (table .entry)) sink) hs → Takes (now (table .entry)) sink (headingsFrom (now (text .entry)) hs from (sink .count)) (now (table .exit)) r) ⌝ }
 {
     let end = text.len();
     let mut at = from;
@@ -136,7 +136,7 @@ pub fn read_headings(text: &[u8], from: usize, before: usize, table: &mut [u32],
 pub fn read_opening(text: &[u8], table: &mut [u32], sink: Sink) -> Turn
     requires { ⌜ (length (now text) ≤ textLimit) × (sink .count ≡ 0) ⌝ }
     ensures { λ r. ⌜ (r .next ≡ nextLine isHeading (now (text .entry)) 0) × (r .sink .count ≤ 2 * r .next + 2) ⌝ }
-    ensures { λ r. ⌜ state (now (table .exit)) (r .sink) ≡ absorbed (state (now (table .entry)) sink) (openingEntries (now (text .entry))) ⌝ }
+    ensures { λ r. ⌜ Takes (now (table .entry)) sink (openingEntries (now (text .entry))) (now (table .exit)) (r .sink) ⌝ }
 {
     let end = text.len();
     let r = Record {
@@ -159,7 +159,7 @@ pub fn read_opening(text: &[u8], table: &mut [u32], sink: Sink) -> Turn
 // The whole text.
 pub fn walk(text: &[u8], table: &mut [u32], sink: Sink) -> Sink
     requires { ⌜ (length (now text) ≤ textLimit) × (sink .count ≡ 0) ⌝ }
-    ensures { λ r. ⌜ state (now (table .exit)) r ≡ absorbed (state (now (table .entry)) sink) (readingEntries (now (text .entry))) ⌝ }
+    ensures { λ r. ⌜ Takes (now (table .entry)) sink (readingEntries (now (text .entry))) (now (table .exit)) r ⌝ }
 {
     let turn = read_opening(text, table, sink);
     read_headings(text, turn.next, 0, table, turn.sink)

@@ -9,15 +9,17 @@ ghost use Rattle.rules.specs.Places.{placeAt};
 ghost use Rattle.rules.specs.Findings.{LineOf, NoEnd};
 ghost use Rattle.table.specs.Makers.{childRecord};
 ghost use Rattle.table.specs.Nesting.{depthIn};
-ghost use Rattle.reading.specs.Walk.{state, absorbed, entriesFrom, elementsTo, linesTo, sectionOf, sectionEntries, far};
-ghost use Rattle.reading.specs.Walk.{Range, ElementIn, StepAt, recordOf, withHeld, nextPlace, firstPlace};
+ghost use Rattle.reading.specs.Walk.{Takes, entriesFrom, elementsTo, linesTo, sectionOf, sectionEntries, far};
+ghost use Rattle.reading.specs.Walk.{Range, ElementIn, StepAt, recordOf, withHeld};
 use crate::sink::Sink;
 use crate::sink::emit;
 use rules::closer::may_end;
-use rules::element::Element;
 use rules::element::element_at;
 use rules::kind;
 use rules::place::Place;
+use rules::place::first_place;
+use rules::place::next_place;
+use rules::rule::Element;
 use table::record::Record;
 use text::bytes::Class;
 use text::bytes::run_end;
@@ -74,7 +76,7 @@ fn read_lines(
 ) -> Sink
     requires { ⌜ (from ≤ to) × (to ≤ length (now text)) × (to ≤ textLimit) × (parent ≤ far) × (sink .count ≤ 2 * from + 3) ⌝ }
     requires { ⌜ (lines ≡ length (linesIn (now text) from to)) × (depth ≤ depthLimit) × (sink .stopped ≡ false) ⌝ }
-    ensures { λ r. ⌜ state (now (table .exit)) r ≡ absorbed (state (now (table .entry)) sink) (entriesFrom (now (text .entry)) (linesTo rows to) parent depth from (sink .count)) ⌝ }
+    ensures { λ r. ⌜ Takes (now (table .entry)) sink (entriesFrom (now (text .entry)) (linesTo rows to) parent depth from (sink .count)) (now (table .exit)) r ⌝ }
     ensures { λ r. ⌜ r .count + from ≤ sink .count + to ⌝ }
 {
     if !sink.writing {
@@ -97,26 +99,6 @@ fn read_lines(
         at = line.end;
     }
     kept
-}
-
-// The place after an element of a kind, with no blank line after it or with some.
-fn next_place(place: Place, kind: usize, tight: bool) -> Place
-    ensures { λ r. ⌜ r ≡ nextPlace place kind tight ⌝ }
-{
-    if !tight {
-        return Place::Elsewhere;
-    }
-    if kind == kind::PLANNING {
-        return Place::AfterPlanning;
-    }
-    if kind != kind::COMMENT {
-        return Place::Elsewhere;
-    }
-    match place {
-        Place::Opening => Place::AfterComment,
-        Place::AfterComment => Place::AfterComment,
-        _ => Place::Elsewhere,
-    }
 }
 
 // The depth of an element of a kind in a container of a depth.
@@ -179,7 +161,7 @@ fn read_elements(
     sink: Sink,
 ) -> Sink
     requires { ⌜ Range (now text) from to × (from < to → place ≡ placeAt (now text) from) × (depth ≤ depthLimit) × (parent ≤ far) × (sink .count ≤ 2 * from + 2) ⌝ }
-    ensures { λ r. ⌜ state (now (table .exit)) r ≡ absorbed (state (now (table .entry)) sink) (entriesFrom (now (text .entry)) (elementsTo to) parent depth from (sink .count)) ⌝ }
+    ensures { λ r. ⌜ Takes (now (table .entry)) sink (entriesFrom (now (text .entry)) (elementsTo to) parent depth from (sink .count)) (now (table .exit)) r ⌝ }
     ensures { λ r. ⌜ r .count + 2 * from ≤ sink .count + 2 * to ⌝ }
 {
     if to <= from {
@@ -211,7 +193,7 @@ fn read_element(
     sink: Sink,
 ) -> Sink
     requires { ⌜ ElementIn (now text) at end e × (depth ≤ depthLimit) × (parent ≤ far) × (sink .count ≤ 2 * at + 2) ⌝ }
-    ensures { λ r. ⌜ state (now (table .exit)) r ≡ absorbed (state (now (table .entry)) sink) (withHeld (now (text .entry)) (recordOf at end e parent) (sink .count) depth) ⌝ }
+    ensures { λ r. ⌜ Takes (now (table .entry)) sink (withHeld (now (text .entry)) (recordOf at end e parent) (sink .count) depth) (now (table .exit)) r ⌝ }
     ensures { λ r. ⌜ r .count + 2 * at ≤ sink .count + 2 * end ⌝ }
 {
     let index = sink.count;
@@ -251,19 +233,6 @@ fn read_element(
     )
 }
 
-// The place of a section's first line, which stands after blank lines or not.
-fn first_place(place: Place, blank: bool) -> Place
-    ensures { λ r. ⌜ r ≡ firstPlace place blank ⌝ }
-{
-    if !blank {
-        return place;
-    }
-    match place {
-        Place::Opening => Place::Opening,
-        _ => Place::Elsewhere,
-    }
-}
-
 // The section from the line after a heading line, or from the text's start, up to the next heading line; none where all of it is blank.
 pub fn read_section(
     text: &[u8],
@@ -275,7 +244,7 @@ pub fn read_section(
     sink: Sink,
 ) -> Sink
     requires { ⌜ (from ≤ length (now text)) × (length (now text) ≤ textLimit) × LineStart (now text) from × (to ≡ nextLine isHeading (now text) from) × (place ≡ placeAt (now text) from) × (parent ≤ far) × (sink .count ≤ 2 * from + 1) ⌝ }
-    ensures { λ r. ⌜ state (now (table .exit)) r ≡ absorbed (state (now (table .entry)) sink) (sectionEntries (now (text .entry)) (sectionOf from) parent (sink .count)) ⌝ }
+    ensures { λ r. ⌜ Takes (now (table .entry)) sink (sectionEntries (now (text .entry)) (sectionOf from) parent (sink .count)) (now (table .exit)) r ⌝ }
     ensures { λ r. ⌜ r .count + 2 * from ≤ sink .count + 2 * to + 1 ⌝ }
 {
     let at = first_line(text, from, to);

@@ -1,15 +1,15 @@
 ghost use mathlib.Core.Path.{_≡_};
 ghost use Prim.Native.Nat.{_≤_};
 ghost use lib.ListN.{length};
-ghost use Rattle.text.specs.Parts.{linesIn, part};
+ghost use Rattle.text.specs.Parts.{part};
 ghost use Rattle.rules.specs.Names.{numberIn};
 ghost use Rattle.rules.specs.Elements.{block, verbatimNames, greaterDetail};
-ghost use Rattle.rules.specs.Findings.{LineOf, ruleAt};
+ghost use Rattle.rules.specs.Findings.{LineOf, ruleOn};
 use crate::closer::Closer;
 use crate::closer::find_closer;
-use crate::element::Element;
-use crate::element::Rule;
 use crate::kind;
+use crate::rule::Element;
+use crate::rule::Rule;
 use text::line::LineSpan;
 use text::marks::word_end;
 use text::word::begins_with;
@@ -55,7 +55,7 @@ fn greater_detail(text: &[u8], from: usize, to: usize) -> usize
 // A block, where its closer stands before the end.  [01 rule 3]
 pub fn try_block(text: &[u8], line: LineSpan, to: usize) -> Rule
     requires { ⌜ LineOf (now text) line to ⌝ }
-    ensures { λ r. ⌜ r ≡ ruleAt (line .start) (linesIn (now (text .entry)) (line .start) to) (block (linesIn (now (text .entry)) (line .start) to)) ⌝ }
+    ensures { λ r. ⌜ r ≡ ruleOn block (now (text .entry)) line to ⌝ }
 {
     if !begins_with(text, line.from, line.to, b"#+begin_") {
         return Rule::Fails;

@@ -1,18 +1,18 @@
 ghost use mathlib.Core.Path.{_≡_};
 ghost use mathlib.Core.Bool.{false};
-ghost use Rattle.text.specs.Parts.{linesIn, lineIn};
+ghost use Rattle.text.specs.Parts.{lineIn};
 ghost use Rattle.rules.specs.Places.{allowsProperties};
 ghost use Rattle.rules.specs.LineTests.{isDrawerLine};
 ghost use Rattle.rules.specs.Elements.{drawer, propertyDrawer};
-ghost use Rattle.rules.specs.Findings.{LineOf, NoEnd, ruleAt};
+ghost use Rattle.rules.specs.Findings.{LineOf, NoEnd, ruleOn};
 use crate::closer::Closer;
 use crate::closer::find_end;
-use crate::element::Element;
-use crate::element::Rule;
 use crate::kind;
 use crate::place::Place;
 use crate::property::find_properties_end;
 use crate::property::is_between_colons;
+use crate::rule::Element;
+use crate::rule::Rule;
 use text::bytes::Class;
 use text::bytes::run_end;
 use text::line::LineSpan;
@@ -31,7 +31,7 @@ fn allows_properties(place: Place) -> bool
 // A property drawer: node property lines only, up to the first `:END:`.  [01 rule 2]
 pub fn try_property_drawer(text: &[u8], line: LineSpan, to: usize, place: Place) -> Rule
     requires { ⌜ LineOf (now text) line to ⌝ }
-    ensures { λ r. ⌜ r ≡ ruleAt (line .start) (linesIn (now (text .entry)) (line .start) to) (propertyDrawer place (linesIn (now (text .entry)) (line .start) to)) ⌝ }
+    ensures { λ r. ⌜ r ≡ ruleOn (propertyDrawer place) (now (text .entry)) line to ⌝ }
 {
     if !allows_properties(place) {
         return Rule::Fails;
@@ -72,7 +72,7 @@ fn is_drawer_line(text: &[u8], line: LineSpan, to: usize) -> bool
 // A drawer, where an `:END:` line stands before the end. `ends` is false only where it is known that none does.  [01 rule 4]
 pub fn try_drawer(text: &[u8], line: LineSpan, to: usize, ends: bool) -> Rule
     requires { ⌜ LineOf (now text) line to × (ends ≡ false → NoEnd (now text) (line .end) to) ⌝ }
-    ensures { λ r. ⌜ r ≡ ruleAt (line .start) (linesIn (now (text .entry)) (line .start) to) (drawer (linesIn (now (text .entry)) (line .start) to)) ⌝ }
+    ensures { λ r. ⌜ r ≡ ruleOn drawer (now (text .entry)) line to ⌝ }
 {
     if !ends {
         return Rule::Fails;

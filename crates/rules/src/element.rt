@@ -4,67 +4,32 @@ ghost use Prim.Native.Nat.{_+_, _≤_};
 ghost use lib.ListN.{length, take};
 ghost use Rattle.text.specs.Lines.{size};
 ghost use Rattle.text.specs.Parts.{linesIn};
-ghost use Rattle.rules.specs.Elements.{planning, firstOf, rules1to9, paragraphLines, element};
-ghost use Rattle.rules.specs.Findings.{LineOf, NoEnd, Plain, ruleAt, spanned, colonRules, hashRules};
+ghost use Rattle.rules.specs.Elements.{firstOf, rules1to9, paragraphLines, element};
+ghost use Rattle.rules.specs.Findings.{LineOf, NoEnd, Plain, ruleOn, spanned, colonRules, hashRules};
 use crate::block::try_block;
 use crate::closer::may_end;
 use crate::drawer::try_drawer;
 use crate::drawer::try_property_drawer;
-use crate::keyword::try_horizontal_rule;
+use crate::horizontal::try_horizontal_rule;
 use crate::keyword::try_keyword;
 use crate::kind;
 use crate::lines::try_comment;
 use crate::lines::try_fixed_width;
 use crate::lines::try_table;
 use crate::place::Place;
-use crate::planning::is_planning;
+use crate::planning::try_planning;
+use crate::rule::Element;
+use crate::rule::Rule;
 use text::bytes::Class;
 use text::bytes::run_end;
 use text::line::LineSpan;
 use text::line::line_at;
 use text::line::line_end;
 
-// An element without its blank lines: its kind, its own end, its inner span, its detail, and the lines of its inner span where they are counted.
-pub struct Element {
-    pub kind: usize,
-    pub end: usize,
-    pub from: usize,
-    pub to: usize,
-    pub detail: usize,
-    pub lines: usize,
-}
-
-// What a rule finds at a line.
-pub enum Rule {
-    Holds(Element),
-    Fails,
-}
-
-// A planning line.  [01 rule 1]
-fn try_planning(text: &[u8], line: LineSpan, to: usize, place: Place) -> Rule
-    requires { ⌜ LineOf (now text) line to ⌝ }
-    ensures { λ r. ⌜ r ≡ ruleAt (line .start) (linesIn (now (text .entry)) (line .start) to) (planning place (linesIn (now (text .entry)) (line .start) to)) ⌝ }
-{
-    let Place::AfterHeading = place else {
-        return Rule::Fails;
-    };
-    if !is_planning(text, line, to) {
-        return Rule::Fails;
-    }
-    Rule::Holds(Element {
-        kind: kind::PLANNING,
-        end: line.end,
-        from: line.from,
-        to: line.to,
-        detail: 0,
-        lines: 0,
-    })
-}
-
 // Rules 2, 4 and 7: those of a body that starts with `:`.
 fn try_colon(text: &[u8], line: LineSpan, to: usize, place: Place, ends: bool) -> Rule
     requires { ⌜ LineOf (now text) line to × (ends ≡ false → NoEnd (now text) (line .end) to) ⌝ }
-    ensures { λ r. ⌜ r ≡ ruleAt (line .start) (linesIn (now (text .entry)) (line .start) to) (firstOf (colonRules place) (linesIn (now (text .entry)) (line .start) to)) ⌝ }
+    ensures { λ r. ⌜ r ≡ ruleOn (firstOf (colonRules place)) (now (text .entry)) line to ⌝ }
 {
     if let Rule::Holds(e) = try_property_drawer(text, line, to, place) {
         return Rule::Holds(e);
@@ -78,7 +43,7 @@ fn try_colon(text: &[u8], line: LineSpan, to: usize, place: Place, ends: bool) -
 // Rules 3, 6 and 9: those of a body that starts with `#`.
 fn try_hash(text: &[u8], line: LineSpan, to: usize) -> Rule
     requires { ⌜ LineOf (now text) line to ⌝ }
-    ensures { λ r. ⌜ r ≡ ruleAt (line .start) (linesIn (now (text .entry)) (line .start) to) (firstOf hashRules (linesIn (now (text .entry)) (line .start) to)) ⌝ }
+    ensures { λ r. ⌜ r ≡ ruleOn (firstOf hashRules) (now (text .entry)) line to ⌝ }
 {
     if let Rule::Holds(e) = try_block(text, line, to) {
         return Rule::Holds(e);
@@ -93,7 +58,7 @@ fn try_hash(text: &[u8], line: LineSpan, to: usize) -> Rule
 // where no `:END:` line follows.
 pub fn find_rule(text: &[u8], line: LineSpan, to: usize, place: Place, ends: bool) -> Rule
     requires { ⌜ LineOf (now text) line to × (ends ≡ false → NoEnd (now text) (line .end) to) ⌝ }
-    ensures { λ r. ⌜ r ≡ ruleAt (line .start) (linesIn (now (text .entry)) (line .start) to) (firstOf (rules1to9 place) (linesIn (now (text .entry)) (line .start) to)) ⌝ }
+    ensures { λ r. ⌜ r ≡ ruleOn (firstOf (rules1to9 place)) (now (text .entry)) line to ⌝ }
 {
     let from = line.from;
     if line.to <= from {

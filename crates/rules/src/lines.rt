@@ -8,10 +8,10 @@ ghost use Rattle.text.specs.Lines.{size, indent, leading};
 ghost use Rattle.text.specs.Parts.{linesIn, lineIn};
 ghost use Rattle.rules.specs.LineTests.{isMarked};
 ghost use Rattle.rules.specs.Elements.{table, comment, fixedWidth};
-ghost use Rattle.rules.specs.Findings.{LineOf, lineTest, ruleAt};
-use crate::element::Element;
-use crate::element::Rule;
+ghost use Rattle.rules.specs.Findings.{LineOf, lineTest, ruleOn};
 use crate::kind;
+use crate::rule::Element;
+use crate::rule::Rule;
 use text::bytes::Class;
 use text::bytes::is_nonblank;
 use text::bytes::run_end;
@@ -85,7 +85,7 @@ pub fn lines_end(text: &[u8], from: usize, to: usize, class: LineClass) -> LineR
 // A table: row lines, and the formula lines right after them.  [01 rule 5]
 pub fn try_table(text: &[u8], line: LineSpan, to: usize) -> Rule
     requires { ⌜ LineOf (now text) line to ⌝ }
-    ensures { λ r. ⌜ r ≡ ruleAt (line .start) (linesIn (now (text .entry)) (line .start) to) (table (linesIn (now (text .entry)) (line .start) to)) ⌝ }
+    ensures { λ r. ⌜ r ≡ ruleOn table (now (text .entry)) line to ⌝ }
 {
     if !starts_line(text, line.from, to, LineClass::Row) {
         return Rule::Fails;
@@ -104,7 +104,7 @@ pub fn try_table(text: &[u8], line: LineSpan, to: usize) -> Rule
 // A comment: lines that start with `#`.  [01 rule 6]
 pub fn try_comment(text: &[u8], line: LineSpan, to: usize) -> Rule
     requires { ⌜ LineOf (now text) line to ⌝ }
-    ensures { λ r. ⌜ r ≡ ruleAt (line .start) (linesIn (now (text .entry)) (line .start) to) (comment (linesIn (now (text .entry)) (line .start) to)) ⌝ }
+    ensures { λ r. ⌜ r ≡ ruleOn comment (now (text .entry)) line to ⌝ }
 {
     if !starts_line(text, line.from, to, LineClass::Comment) {
         return Rule::Fails;
@@ -123,7 +123,7 @@ pub fn try_comment(text: &[u8], line: LineSpan, to: usize) -> Rule
 // A fixed-width area: lines that start with `:`.  [01 rule 7]
 pub fn try_fixed_width(text: &[u8], line: LineSpan, to: usize) -> Rule
     requires { ⌜ LineOf (now text) line to ⌝ }
-    ensures { λ r. ⌜ r ≡ ruleAt (line .start) (linesIn (now (text .entry)) (line .start) to) (fixedWidth (linesIn (now (text .entry)) (line .start) to)) ⌝ }
+    ensures { λ r. ⌜ r ≡ ruleOn fixedWidth (now (text .entry)) line to ⌝ }
 {
     if !starts_line(text, line.from, to, LineClass::FixedWidth) {
         return Rule::Fails;

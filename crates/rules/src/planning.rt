@@ -1,7 +1,12 @@
 ghost use mathlib.Core.Path.{_≡_};
 ghost use Rattle.text.specs.Parts.{lineIn};
 ghost use Rattle.rules.specs.LineTests.{isPlanning};
-ghost use Rattle.rules.specs.Findings.{LineOf};
+ghost use Rattle.rules.specs.Elements.{planning};
+ghost use Rattle.rules.specs.Findings.{LineOf, ruleOn};
+use crate::kind;
+use crate::place::Place;
+use crate::rule::Element;
+use crate::rule::Rule;
 use text::line::LineSpan;
 use text::word::begins_with;
 
@@ -13,4 +18,25 @@ pub fn is_planning(text: &[u8], line: LineSpan, to: usize) -> bool
     begins_with(text, line.from, line.to, b"closed:")
         || begins_with(text, line.from, line.to, b"deadline:")
         || begins_with(text, line.from, line.to, b"scheduled:")
+}
+
+// A planning line.  [01 rule 1]
+pub fn try_planning(text: &[u8], line: LineSpan, to: usize, place: Place) -> Rule
+    requires { ⌜ LineOf (now text) line to ⌝ }
+    ensures { λ r. ⌜ r ≡ ruleOn (planning place) (now (text .entry)) line to ⌝ }
+{
+    let Place::AfterHeading = place else {
+        return Rule::Fails;
+    };
+    if !is_planning(text, line, to) {
+        return Rule::Fails;
+    }
+    Rule::Holds(Element {
+        kind: kind::PLANNING,
+        end: line.end,
+        from: line.from,
+        to: line.to,
+        detail: 0,
+        lines: 0,
+    })
 }

@@ -9,7 +9,7 @@ use Rattle.text.specs.Bytes.{lower}
 use Rattle.text.specs.Parts.{linesIn}
 use Rattle.rules.specs.Elements.{firstOf, rules1to9}
 use Rattle.rules.specs.Findings.{ruleAt}
-use Rattle.rules.specs.declared.element.Rule.the-variants.{Fails}
+use Rattle.rules.specs.declared.rule.Rule.the-variants.{Fails}
 use Rattle.rules.proofs.Laws.LineOf.{lineOf-order}
 use Rattle.rules.proofs.Laws.FirstByte.{firstAt, first-none, first-some, unwanted, startsPlanning}
 use Rattle.rules.proofs.Laws.FirstByte.{startsPlanning-upper, startsPlanning-small, startsPlanning-s}

@@ -1,10 +1,10 @@
--- `rules::keyword::try_horizontal_rule` meets its contract: a law for each way out.
+-- `rules::horizontal::try_horizontal_rule` meets its contract: a law for each way out.
 -- Assumes nothing.
 use native.Mathlib.Omega.{arith}
 use Rattle.rules.proofs.Laws.LineOf.{lineOf-order}
 use Rattle.rules.proofs.Laws.Rules.{horizontalRule-short, horizontalRule-other, horizontalRule-yes}
-use Rattle.rules.proofs.keyword.try_horizontal_rule.Statement.{statement}
-use Rattle.rules.proofs.keyword.try_horizontal_rule.Tie as tie
+use Rattle.rules.proofs.horizontal.try_horizontal_rule.Statement.{statement}
+use Rattle.rules.proofs.horizontal.try_horizontal_rule.Tie as tie
 
 sub-if1 : tie.Need-sub-if1
 sub-if1 c = let o = lineOf-order _ _ _ (c .before .before .pre) in omega arith

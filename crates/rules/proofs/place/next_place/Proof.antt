@@ -1,4 +1,4 @@
--- `reading::walk::next_place` meets its contract: its tests are those of `nextPlace`, in their order.
+-- `rules::place::next_place` meets its contract: its tests are those of `nextPlace`, in their order.
 -- Assumes nothing.
 use mathlib.Core.Path.{_≡_, refl, sym}
 use mathlib.Core.Bool.{true}
@@ -7,12 +7,12 @@ use Prim.Native.Nat.{ℕ}
 use types.Run.{miss}
 use borrow.Author.Needs.{needs}
 use borrow.Author.Tests.{eq-eqb, ne-eqb, not-true, not-false}
 use Rattle.rules.specs.Kind
 use Rattle.rules.specs.declared.place.Place.{Place}
 use Rattle.rules.specs.declared.place.Place.the-variants.{AfterHeading, AfterPlanning, Opening, AfterComment, Elsewhere}
-use Rattle.reading.specs.Walk.{afterFirstComment, nextPlace}
-use Rattle.reading.proofs.walk.next_place.Statement.{statement}
-use Rattle.reading.proofs.walk.next_place.Tie as tie
+use Rattle.rules.specs.Places.{afterFirstComment, nextPlace}
+use Rattle.rules.proofs.place.next_place.Statement.{statement}
+use Rattle.rules.proofs.place.next_place.Tie as tie
 
 returns : tie.Need-returns
 unfolding nextPlace

@@ -1,4 +1,4 @@
--- `reading::walk::first_place` meets its contract: after blank lines only the place at the text's start stays.
+-- `rules::place::first_place` meets its contract: after blank lines only the place at the text's start stays.
 -- Assumes nothing.
 use mathlib.Core.Path.{_≡_, refl, sym}
 use mathlib.Core.Bool.{true}
@@ -6,11 +6,11 @@ use mathlib.Core.List.{[], _∷_}
 use types.Run.{miss}
 use borrow.Author.Needs.{needs}
 use borrow.Author.Tests.{not-true, not-false}
 use Rattle.rules.specs.declared.place.Place.{Place}
 use Rattle.rules.specs.declared.place.Place.the-variants.{AfterHeading, AfterPlanning, Opening, AfterComment, Elsewhere}
-use Rattle.reading.specs.Walk.{afterBlank}
-use Rattle.reading.proofs.walk.first_place.Statement.{statement}
-use Rattle.reading.proofs.walk.first_place.Tie as tie
+use Rattle.rules.specs.Places.{afterBlank}
+use Rattle.rules.proofs.place.first_place.Statement.{statement}
+use Rattle.rules.proofs.place.first_place.Tie as tie
 
 returns : tie.Need-returns
 returns c = rw (not-true (c .before .args .blank) (c .if1 .taken))

@@ -1,4 +1,4 @@
--- `rules::element::try_planning` meets its contract: right after a heading line the line decides, and no other place allows it.
+-- `rules::planning::try_planning` meets its contract: right after a heading line the line decides, and no other place allows it.
 -- Assumes nothing.
 use mathlib.Core.Path.{_≡_, sym, _∙_}
 use mathlib.Core.Bool.{_&&_}
@@ -11,8 +11,8 @@ use Rattle.rules.specs.LineTests.{isPlanning}
 use Rattle.rules.specs.Places.{allowsPlanning}
 use Rattle.rules.proofs.Laws.Places.{allowsPlanning-no}
 use Rattle.rules.proofs.Laws.Rules.{planning-no, planning-yes}
-use Rattle.rules.proofs.element.try_planning.Statement.{statement}
-use Rattle.rules.proofs.element.try_planning.Tie as tie
+use Rattle.rules.proofs.planning.try_planning.Statement.{statement}
+use Rattle.rules.proofs.planning.try_planning.Tie as tie
 
 returns : tie.Need-returns
 returns c =

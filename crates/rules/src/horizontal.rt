@@ -1,0 +1,30 @@
+ghost use mathlib.Core.Path.{_≡_};
+ghost use Rattle.rules.specs.Elements.{horizontalRule};
+ghost use Rattle.rules.specs.Findings.{LineOf, ruleOn};
+use crate::kind;
+use crate::rule::Element;
+use crate::rule::Rule;
+use text::bytes::Class;
+use text::bytes::run_end;
+use text::line::LineSpan;
+
+// A horizontal rule: five hyphens or more.  [01 rule 8]
+pub fn try_horizontal_rule(text: &[u8], line: LineSpan, to: usize) -> Rule
+    requires { ⌜ LineOf (now text) line to ⌝ }
+    ensures { λ r. ⌜ r ≡ ruleOn horizontalRule (now (text .entry)) line to ⌝ }
+{
+    if line.to - line.from < 5 {
+        return Rule::Fails;
+    }
+    if run_end(text, line.from, line.to, Class::Hyphen) < line.to {
+        return Rule::Fails;
+    }
+    Rule::Holds(Element {
+        kind: kind::HORIZONTAL_RULE,
+        end: line.end,
+        from: line.from,
+        to: line.to,
+        detail: 0,
+        lines: 0,
+    })
+}
