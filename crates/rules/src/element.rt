@@ -13,8 +13,8 @@ use crate::drawer::try_property_drawer;
 use crate::horizontal::try_horizontal_rule;
 use crate::keyword::try_keyword;
 use crate::kind;
-use crate::lines::try_comment;
-use crate::lines::try_fixed_width;
+use crate::lines::LineClass;
+use crate::lines::try_run;
 use crate::lines::try_table;
 use crate::place::Place;
 use crate::planning::try_planning;
@@ -37,7 +37,7 @@ fn try_colon(text: &[u8], line: LineSpan, to: usize, place: Place, ends: bool) -
     if let Rule::Holds(e) = try_drawer(text, line, to, ends) {
         return Rule::Holds(e);
     }
-    try_fixed_width(text, line, to)
+    try_run(text, line, to, LineClass::FixedWidth, kind::FIXED_WIDTH)
 }
 
 // Rules 3, 6 and 9: those of a body that starts with `#`.
@@ -48,7 +48,7 @@ fn try_hash(text: &[u8], line: LineSpan, to: usize) -> Rule
     if let Rule::Holds(e) = try_block(text, line, to) {
         return Rule::Holds(e);
     }
-    if let Rule::Holds(e) = try_comment(text, line, to) {
+    if let Rule::Holds(e) = try_run(text, line, to, LineClass::Comment, kind::COMMENT) {
         return Rule::Holds(e);
     }
     try_keyword(text, line, to)

@@ -7,7 +7,8 @@ ghost use Rattle.text.specs.Runs.{trimEnd};
 ghost use Rattle.text.specs.Lines.{size, indent, leading};
 ghost use Rattle.text.specs.Parts.{linesIn, lineIn};
 ghost use Rattle.rules.specs.LineTests.{isMarked};
-ghost use Rattle.rules.specs.Elements.{table, comment, fixedWidth};
+ghost use Rattle.rules.specs.Elements.{table, runOf};
+ghost use Rattle.rules.specs.Spans.{innerOf, ownLines};
 ghost use Rattle.rules.specs.Findings.{LineOf, lineTest, ruleOn};
 use crate::kind;
 use crate::rule::Element;
@@ -101,36 +102,17 @@ pub fn try_table(text: &[u8], line: LineSpan, to: usize) -> Rule
     })
 }
 
-// A comment: lines that start with `#`.  [01 rule 6]
-pub fn try_comment(text: &[u8], line: LineSpan, to: usize) -> Rule
-    requires { ⌜ LineOf (now text) line to ⌝ }
-    ensures { λ r. ⌜ r ≡ ruleOn comment (now (text .entry)) line to ⌝ }
+// A comment or a fixed-width area: the run of lines of a class, as an element of a kind.  [01 rules 6 and 7]
+pub fn try_run(text: &[u8], line: LineSpan, to: usize, class: LineClass, kind: usize) -> Rule
+    requires { ⌜ LineOf (now text) line to × (innerOf kind ≡ ownLines) ⌝ }
+    ensures { λ r. ⌜ r ≡ ruleOn (runOf (lineTest class) kind) (now (text .entry)) line to ⌝ }
 {
-    if !starts_line(text, line.from, to, LineClass::Comment) {
+    if !starts_line(text, line.from, to, class) {
         return Rule::Fails;
     }
-    let end = lines_end(text, line.end, to, LineClass::Comment).end;
+    let end = lines_end(text, line.end, to, class).end;
     Rule::Holds(Element {
-        kind: kind::COMMENT,
-        end: end,
-        from: line.start,
-        to: end,
-        detail: 0,
-        lines: 0,
-    })
-}
-
-// A fixed-width area: lines that start with `:`.  [01 rule 7]
-pub fn try_fixed_width(text: &[u8], line: LineSpan, to: usize) -> Rule
-    requires { ⌜ LineOf (now text) line to ⌝ }
-    ensures { λ r. ⌜ r ≡ ruleOn fixedWidth (now (text .entry)) line to ⌝ }
-{
-    if !starts_line(text, line.from, to, LineClass::FixedWidth) {
-        return Rule::Fails;
-    }
-    let end = lines_end(text, line.end, to, LineClass::FixedWidth).end;
-    Rule::Holds(Element {
-        kind: kind::FIXED_WIDTH,
+        kind: kind,
         end: end,
         from: line.start,
         to: end,

@@ -1,7 +1,9 @@
 -- `rules::element::try_colon` meets its contract: the three rules in their order, each left where it fails.
 -- Assumes nothing.
-use mathlib.Core.Path.{sym, _∙_}
+use mathlib.Core.Path.{refl, sym, _∙_}
 use borrow.Author.Needs.{needs}
+use Rattle.rules.specs.Elements.{fixedWidth}
+use Rattle.rules.specs.Spans.{innerOf}
 use Rattle.rules.specs.Findings.{colonRules}
 use Rattle.rules.proofs.Laws.FirstOf.{firstOf-holds, firstOf-fails, firstOf-last}
 use Rattle.rules.proofs.element.try_colon.Statement.{statement}
@@ -19,12 +21,16 @@ returns-2 c =
     firstOf-holds _ _ _ _ _ (sym (c .before .e2 .given .1) ∙ at-second .try-drawer .ensures)
     ∙ firstOf-fails _ _ _ _ (sym (at-second .before .enum-told .given .1) ∙ at-first .try-property-drawer .ensures)
 
+try-run-requires : tie.Need-try-run-requires
+unfolding innerOf
+try-run-requires c κs = (c .before .before .before .before .before .before .before .pre .0, refl)
+
 returns-3 : tie.Need-returns-3
-unfolding colonRules
+unfolding colonRules fixedWidth
 returns-3 c =
     let at-second = c .before .before .before in
     let at-first = at-second .before .before .before in
-    c .try-fixed-width .ensures
+    c .try-run .ensures
     ∙ firstOf-last _ _ _
     ∙ firstOf-fails _ _ _ _ (sym (c .before .enum-told2 .given .1) ∙ at-second .try-drawer .ensures)
     ∙ firstOf-fails _ _ _ _ (sym (at-second .before .enum-told .given .1) ∙ at-first .try-property-drawer .ensures)
@@ -41,5 +47,5 @@ try-colon-spec =
     (λ c. search needs)
     returns-2
     (λ c. search needs)
-    (λ c κs. search needs)
+    try-run-requires
     returns-3)

@@ -1,7 +1,9 @@
 -- `rules::element::try_hash` meets its contract: the three rules in their order, each left where it fails.
 -- Assumes nothing.
-use mathlib.Core.Path.{sym, _∙_}
+use mathlib.Core.Path.{refl, sym, _∙_}
 use borrow.Author.Needs.{needs}
+use Rattle.rules.specs.Elements.{comment}
+use Rattle.rules.specs.Spans.{innerOf}
 use Rattle.rules.specs.Findings.{hashRules}
 use Rattle.rules.proofs.Laws.FirstOf.{firstOf-holds, firstOf-fails, firstOf-last}
 use Rattle.rules.proofs.element.try_hash.Statement.{statement}
@@ -11,22 +13,26 @@ returns : tie.Need-returns
 unfolding hashRules
 returns c = firstOf-holds _ _ _ _ _ (sym (c .before .e .given .1) ∙ c .before .before .before .try-block .ensures)
 
+try-run-requires : tie.Need-try-run-requires
+unfolding innerOf
+try-run-requires c κs = (c .before .before .before .before .pre, refl)
+
 returns-2 : tie.Need-returns-2
-unfolding hashRules
+unfolding hashRules comment
 returns-2 c =
     let at-second = c .before .before .before in
     let at-first = at-second .before .before .before in
-    firstOf-holds _ _ _ _ _ (sym (c .before .e2 .given .1) ∙ at-second .try-comment .ensures)
+    firstOf-holds _ _ _ _ _ (sym (c .before .e2 .given .1) ∙ at-second .try-run .ensures)
     ∙ firstOf-fails _ _ _ _ (sym (at-second .before .enum-told .given .1) ∙ at-first .try-block .ensures)
 
 returns-3 : tie.Need-returns-3
-unfolding hashRules
+unfolding hashRules comment
 returns-3 c =
     let at-second = c .before .before .before in
     let at-first = at-second .before .before .before in
     c .try-keyword .ensures
     ∙ firstOf-last _ _ _
-    ∙ firstOf-fails _ _ _ _ (sym (c .before .enum-told2 .given .1) ∙ at-second .try-comment .ensures)
+    ∙ firstOf-fails _ _ _ _ (sym (c .before .enum-told2 .given .1) ∙ at-second .try-run .ensures)
     ∙ firstOf-fails _ _ _ _ (sym (at-second .before .enum-told .given .1) ∙ at-first .try-block .ensures)
 
 pub try-hash-spec : {M : Type 1} → statement M
@@ -37,7 +43,7 @@ try-hash-spec =
     (λ c. search needs)
     returns
     (λ c. search needs)
-    (λ c κs. search needs)
+    try-run-requires
     (λ c. search needs)
     returns-2
     (λ c. search needs)
