@@ -2,9 +2,11 @@
  * comaltzex.h - a proved reader of Org order books.
  *
  * comaltzex_read lists everything in a text as a flat table of records;
- * comaltzex_lookup finds one property of one heading. Both are plain functions:
+ * comaltzex_lookup finds one property of one heading. All functions are plain:
  * they allocate nothing and keep no state, so threads may call them at once
  * (each with a table of its own).
+ *
+ * Stack: a call needs up to 64 KB of stack. In a later version it may be 96 KB.
  *
  * Pointers: each must point to as many elements as its length says, and none
  * may be NULL, not even with length 0. A table may not overlap the text. The
@@ -22,6 +24,13 @@
 extern "C" {
 #endif
 
+/*
+ * The version of this interface. It changes when an answer, the record's width
+ * or a function's signature does. If comaltzex_version() is another number, the
+ * library is not the one that this header declares.
+ */
+#define COMALTZEX_VERSION 1
+
 #define COMALTZEX_TEXT_LIMIT 65536 /* the longest text, in bytes */
 #define COMALTZEX_DEPTH_LIMIT 32   /* the deepest drawer or greater block */
 #define COMALTZEX_KEY_LIMIT 64     /* the longest key of a lookup, in bytes */
@@ -32,7 +41,7 @@ enum comaltzex_number {
     COMALTZEX_OK = 0,
     COMALTZEX_TOO_LONG = 1,   /* the text is over COMALTZEX_TEXT_LIMIT */
     COMALTZEX_TOO_DEEP = 2,   /* a drawer or greater block at depth 33 or more */
-    COMALTZEX_NO_ROOM = 3,    /* more records than table_len / 7 */
+    COMALTZEX_NO_ROOM = 3,    /* more records than the table has room for */
     COMALTZEX_NO_HEADING = 4, /* no heading line starts at that byte */
     COMALTZEX_NO_DRAWER = 5,  /* that heading has no property drawer */
     COMALTZEX_NO_KEY = 6,     /* no line of that drawer has the key */
@@ -40,7 +49,7 @@ enum comaltzex_number {
                                  byte 9, 10, 13 or 32, or ends in '+' */
 };
 
-/* The seven numbers of a record, in order. */
+/* The numbers of a record, in order. */
 enum comaltzex_field {
     COMALTZEX_FIELD_KIND = 0,
     COMALTZEX_FIELD_START = 1,
@@ -85,8 +94,9 @@ typedef struct comaltzex_part {
 } comaltzex_part;
 
 /*
- * Reads a text into a table of table_len numbers, with room for table_len / 7
- * records (rounded down). The first of these that holds is the answer:
+ * Reads a text into a table of table_len numbers, with room for
+ * table_len / COMALTZEX_RECORD_SIZE records (rounded down). The first of these
+ * that holds is the answer:
  *
  *   1  the text is over 65,536 bytes; count is 0
  *   2  a drawer or greater block lies at depth 33 or more; count is 0
@@ -117,6 +127,37 @@ comaltzex_reading comaltzex_read(const uint8_t *text, size_t text_len,
  */
 comaltzex_part comaltzex_lookup(const uint8_t *text, size_t text_len, size_t at,
                                 const uint8_t *key, size_t key_len);
+
+/* The library's own COMALTZEX_RECORD_SIZE. */
+size_t comaltzex_record_size(void);
+
+/* The library's own COMALTZEX_VERSION. */
+uint32_t comaltzex_version(void);
+
+/* The name of an answer's number, for messages: "unknown" if it is none. */
+static inline const char *comaltzex_number_name(uint32_t number)
+{
+    switch (number) {
+    case COMALTZEX_OK:
+        return "ok";
+    case COMALTZEX_TOO_LONG:
+        return "too long";
+    case COMALTZEX_TOO_DEEP:
+        return "too deep";
+    case COMALTZEX_NO_ROOM:
+        return "no room";
+    case COMALTZEX_NO_HEADING:
+        return "no heading";
+    case COMALTZEX_NO_DRAWER:
+        return "no drawer";
+    case COMALTZEX_NO_KEY:
+        return "no key";
+    case COMALTZEX_BAD_KEY:
+        return "bad key";
+    default:
+        return "unknown";
+    }
+}
 
 #ifdef __cplusplus
 }

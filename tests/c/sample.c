@@ -1,4 +1,4 @@
-/* The C interface on document 01's samples and on each refusal. */
+/* The C interface: header and library of one version, document 01's samples, each refusal. */
 #include "comaltzex.h"
 
 #include <stdio.h>
@@ -70,6 +70,30 @@ static void check_lookup(const char *what, const char *text, size_t text_len, si
     check(what, part.number, number);
     check(what, part.start, start);
     check(what, part.end, end);
+}
+
+static void one_version(void)
+{
+    check("version", comaltzex_version(), COMALTZEX_VERSION);
+    check("record size", comaltzex_record_size(), COMALTZEX_RECORD_SIZE);
+}
+
+static void check_name(uint32_t number, const char *name)
+{
+    check(name, strcmp(comaltzex_number_name(number), name) == 0, 1);
+}
+
+static void number_names(void)
+{
+    check_name(COMALTZEX_OK, "ok");
+    check_name(COMALTZEX_TOO_LONG, "too long");
+    check_name(COMALTZEX_TOO_DEEP, "too deep");
+    check_name(COMALTZEX_NO_ROOM, "no room");
+    check_name(COMALTZEX_NO_HEADING, "no heading");
+    check_name(COMALTZEX_NO_DRAWER, "no drawer");
+    check_name(COMALTZEX_NO_KEY, "no key");
+    check_name(COMALTZEX_BAD_KEY, "bad key");
+    check_name(COMALTZEX_BAD_KEY + 1, "unknown");
 }
 
 static void first_sample(void)
@@ -155,6 +179,8 @@ static void depth_limit(void)
 
 int main(void)
 {
+    one_version();
+    number_names();
     first_sample();
     second_sample();
     empty_text();

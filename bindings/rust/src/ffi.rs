@@ -1,4 +1,9 @@
-//! The static library's two functions, made safe. All unsafe code is here.
+//! The static library's functions, made safe. All unsafe code is here.
+
+use crate::RECORD_SIZE;
+
+/// `COMALTZEX_VERSION` of the header.
+const VERSION: u32 = 1;
 
 /// The numbers of an answer, as in `comaltzex.h`.
 pub(crate) mod number {
@@ -42,9 +47,18 @@ extern "C" {
         key: *const u8,
         key_len: usize,
     ) -> Part;
+
+    fn comaltzex_record_size() -> usize;
+
+    fn comaltzex_version() -> u32;
 }
 
 pub(crate) fn read(text: &[u8], table: &mut [u32]) -> Reading {
+    debug_assert_eq!(
+        (version(), record_size()),
+        (VERSION, RECORD_SIZE),
+        "the library has another version or record size than this crate"
+    );
     // SAFETY: each pointer and length are those of one slice, so the pointers are
     // not null and the borrows keep both slices alive and apart. The library
     // stays within these lengths, writes only the table and keeps no pointer.
@@ -54,4 +68,25 @@ pub(crate) fn read(text: &[u8], table: &mut [u32]) -> Reading {
 pub(crate) fn lookup(text: &[u8], at: usize, key: &[u8]) -> Part {
     // SAFETY: as in `read`; the library writes nothing, and `at` may be any number.
     unsafe { comaltzex_lookup(text.as_ptr(), text.len(), at, key.as_ptr(), key.len()) }
+}
+
+fn record_size() -> usize {
+    // SAFETY: the function takes nothing and touches no memory of the caller's.
+    unsafe { comaltzex_record_size() }
+}
+
+fn version() -> u32 {
+    // SAFETY: as in `record_size`.
+    unsafe { comaltzex_version() }
+}
+
+#[cfg(test)]
+mod tests {
+    use super::*;
+
+    #[test]
+    fn the_library_is_the_one_that_is_declared() {
+        assert_eq!(version(), VERSION);
+        assert_eq!(record_size(), RECORD_SIZE);
+    }
 }

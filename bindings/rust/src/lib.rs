@@ -31,7 +31,7 @@
 //! ```
 //!
 //! [`read`] does the same into a table that the caller lends, and allocates
-//! nothing.
+//! nothing. A call needs up to 64 KB of stack; a later version may need 96 KB.
 
 #![deny(unsafe_code, unsafe_op_in_unsafe_fn, missing_docs)]
 

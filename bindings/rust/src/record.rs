@@ -1,3 +1,4 @@
+use std::fmt::{self, Display, Formatter};
 use std::iter::FusedIterator;
 use std::ops::Range;
 use std::slice;
@@ -6,6 +7,14 @@ use crate::RECORD_SIZE;
 
 /// What a record is. Each kind says what its record's `inner` span and `detail`
 /// are; a `detail` that is not mentioned is 0.
+///
+/// A kind is displayed by its name:
+///
+/// ```
+/// use comaltzex::Kind;
+///
+/// assert_eq!(Kind::PropertyDrawer.to_string(), "property drawer");
+/// ```
 #[derive(Clone, Copy, Debug, PartialEq, Eq, Hash)]
 #[non_exhaustive]
 #[repr(u32)]
@@ -80,6 +89,29 @@ impl Kind {
     }
 }
 
+impl Display for Kind {
+    fn fmt(&self, f: &mut Formatter<'_>) -> fmt::Result {
+        f.pad(match self {
+            Kind::Document => "document",
+            Kind::Heading => "heading",
+            Kind::Section => "section",
+            Kind::Planning => "planning",
+            Kind::PropertyDrawer => "property drawer",
+            Kind::NodeProperty => "node property",
+            Kind::Drawer => "drawer",
+            Kind::GreaterBlock => "greater block",
+            Kind::VerbatimBlock => "verbatim block",
+            Kind::Table => "table",
+            Kind::Row => "row",
+            Kind::Comment => "comment",
+            Kind::FixedWidth => "fixed width",
+            Kind::HorizontalRule => "horizontal rule",
+            Kind::Keyword => "keyword",
+            Kind::Paragraph => "paragraph",
+        })
+    }
+}
+
 /// One record of a reading.
 #[derive(Clone, Debug, PartialEq, Eq, Hash)]
 pub struct Record {
@@ -96,7 +128,30 @@ pub struct Record {
 }
 
 impl Record {
-    fn from_row(row: &[u32; RECORD_SIZE]) -> Record {
+    /// The bytes of its `span`, in the text that it was read from.
+    ///
+    /// `None` if the span does not lie in this text. A record does not know its
+    /// text: of another one that is long enough, the bytes mean nothing.
+    ///
+    /// ```
+    /// let text = b"# x\n#+KEY: a b\n";
+    /// let table = comaltzex::Table::read(text)?;
+    /// let keyword = table.get(3).unwrap();
+    /// assert_eq!(keyword.text(text), Some(&b"#+KEY: a b\n"[..]));
+    /// assert_eq!(keyword.inner_text(text), Some(&b"a b"[..]));
+    /// assert_eq!(keyword.text(b"# x\n"), None);
+    /// # Ok::<(), comaltzex::Refusal>(())
+    /// ```
+    pub fn text<'t>(&self, text: &'t [u8]) -> Option<&'t [u8]> {
+        text.get(self.span.clone())
+    }
+
+    /// The bytes of its `inner` span, on the same terms as [`text`](Record::text).
+    pub fn inner_text<'t>(&self, text: &'t [u8]) -> Option<&'t [u8]> {
+        text.get(self.inner.clone())
+    }
+
+    pub(crate) fn from_row(row: &[u32; RECORD_SIZE]) -> Record {
         let [kind, start, end, inner_start, inner_end, parent, detail] = *row;
         Record {
             kind: Kind::from_number(kind).expect("the library writes known kinds only"),
@@ -148,6 +203,20 @@ mod tests {
     fn each_kind_has_its_number() {
         for number in 1..=16 {
             assert_eq!(Kind::from_number(number).map(Kind::number), Some(number));
+        }
+    }
+
+    #[test]
+    fn kinds_have_the_names_and_numbers_of_the_header() {
+        let header = include_str!("../../../include/comaltzex.h");
+        let words: Vec<&str> = header.split([' ', ',', '\n']).collect();
+        for kind in KINDS {
+            let name = kind.to_string().replace(' ', "_").to_uppercase();
+            let (name, number) = (format!("COMALTZEX_{name}"), kind.number().to_string());
+            assert!(
+                words.windows(3).any(|w| w == [&name, "=", &number]),
+                "{name}"
+            );
         }
     }
 

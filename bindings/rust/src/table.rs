@@ -1,5 +1,5 @@
 use crate::ffi::{self, number};
-use crate::{Records, Refusal, RECORD_SIZE};
+use crate::{Record, Records, Refusal, RECORD_SIZE};
 
 /// Reads a text into a lent table, with room for a record in every
 /// [`RECORD_SIZE`] numbers. The records are written from the table's front; what
@@ -52,6 +52,31 @@ impl Table {
         let mut rows = vec![[0; RECORD_SIZE]; records_needed(text)?];
         read(text, rows.as_flattened_mut())?;
         Ok(Table { rows })
+    }
+
+    /// How many records there are: never 0, since every text has the document.
+    #[allow(clippy::len_without_is_empty)]
+    pub fn len(&self) -> usize {
+        self.rows.len()
+    }
+
+    /// The record at an index, such as another record's `parent`; `None` from
+    /// [`len`](Table::len) on.
+    ///
+    /// ```
+    /// use comaltzex::{Kind, Table};
+    ///
+    /// let table = Table::read(b"hi\n")?;
+    /// assert_eq!(table.len(), 3);
+    ///
+    /// let paragraph = table.get(2).unwrap();
+    /// let parent = table.get(paragraph.parent).unwrap();
+    /// assert_eq!((paragraph.kind, parent.kind), (Kind::Paragraph, Kind::Section));
+    /// assert_eq!(table.get(3), None);
+    /// # Ok::<(), comaltzex::Refusal>(())
+    /// ```
+    pub fn get(&self, index: usize) -> Option<Record> {
+        self.rows.get(index).map(Record::from_row)
     }
 
     /// The records; the one at index 0 is the document.

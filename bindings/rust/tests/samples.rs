@@ -55,6 +55,41 @@ fn records_name_the_numbers() {
 }
 
 #[test]
+fn records_by_index() {
+    let table = Table::read(FIRST).unwrap();
+    assert_eq!(table.len(), 6);
+    for (index, record) in table.records().enumerate() {
+        assert_eq!(table.get(index), Some(record));
+    }
+    assert_eq!(table.get(6), None);
+    assert_eq!(table.get(usize::MAX), None);
+    assert_eq!(Table::read(b"").unwrap().len(), 1);
+}
+
+#[test]
+fn texts_of_records() {
+    let table = Table::read(FIRST).unwrap();
+    let property = table.get(4).unwrap();
+    assert_eq!(property.text(FIRST), Some(&b":VIN: 7\n"[..]));
+    assert_eq!(property.inner_text(FIRST), Some(&b"7"[..]));
+    assert_eq!(property.text(&FIRST[..25]), Some(&b":VIN: 7\n"[..]));
+    assert_eq!(property.text(&FIRST[..24]), None);
+    assert_eq!(property.inner_text(&FIRST[..23]), None);
+    assert_eq!(table.get(0).unwrap().text(FIRST), Some(FIRST));
+}
+
+#[test]
+fn kinds_have_names() {
+    let table = Table::read(FIRST).unwrap();
+    let names: Vec<String> = table.records().map(|r| r.kind.to_string()).collect();
+    assert_eq!(
+        names.join(", "),
+        "document, heading, section, property drawer, node property, paragraph"
+    );
+    assert_eq!(format!("{:>8}", Kind::Row), "     row");
+}
+
+#[test]
 fn a_larger_table_keeps_its_rest() {
     let mut table = [UNTOUCHED; 50];
     assert_eq!(read(FIRST, &mut table).unwrap().len(), 6);

@@ -9,14 +9,23 @@ const STACK: usize = 64 * 1024;
 fn read_on_a_small_stack(text: Vec<u8>) -> Result<usize, Refusal> {
     let mut table = vec![0; RECORD_SIZE * (TEXT_LIMIT + 3)];
     let reading = move || read(&text, &mut table).map(|records| records.count());
-    thread::Builder::new().stack_size(STACK).spawn(reading).unwrap().join().unwrap()
+    thread::Builder::new()
+        .stack_size(STACK)
+        .spawn(reading)
+        .unwrap()
+        .join()
+        .unwrap()
 }
 
 /// Blocks in one another, each of another name, with a drawer in the innermost.
 fn nested(depth: usize) -> Vec<u8> {
     let openers = (1..depth).map(|i| format!("#+begin_{i}\n"));
     let closers = (1..depth).rev().map(|i| format!("#+end_{i}\n"));
-    openers.chain([":a:\n:end:\n".to_string()]).chain(closers).collect::<String>().into_bytes()
+    openers
+        .chain([":a:\n:end:\n".to_string()])
+        .chain(closers)
+        .collect::<String>()
+        .into_bytes()
 }
 
 fn filled(line: &str) -> Vec<u8> {
@@ -25,8 +34,14 @@ fn filled(line: &str) -> Vec<u8> {
 
 #[test]
 fn deep_texts() {
-    assert_eq!(read_on_a_small_stack(nested(DEPTH_LIMIT)), Ok(DEPTH_LIMIT + 2));
-    assert_eq!(read_on_a_small_stack(nested(DEPTH_LIMIT + 1)), Err(Refusal::TooDeep));
+    assert_eq!(
+        read_on_a_small_stack(nested(DEPTH_LIMIT)),
+        Ok(DEPTH_LIMIT + 2)
+    );
+    assert_eq!(
+        read_on_a_small_stack(nested(DEPTH_LIMIT + 1)),
+        Err(Refusal::TooDeep)
+    );
     assert_eq!(read_on_a_small_stack(nested(2500)), Err(Refusal::TooDeep));
 }
 
@@ -35,7 +50,10 @@ fn deep_texts() {
 fn deep_after_many_records() {
     let mut text = b"* a\n:properties:\n:a: b\n:end:\n".repeat(1000);
     text.extend(nested(DEPTH_LIMIT));
-    assert_eq!(read_on_a_small_stack(text.clone()), Ok(1 + 4000 + DEPTH_LIMIT));
+    assert_eq!(
+        read_on_a_small_stack(text.clone()),
+        Ok(1 + 4000 + DEPTH_LIMIT)
+    );
     text.extend(nested(DEPTH_LIMIT + 1));
     assert_eq!(read_on_a_small_stack(text), Err(Refusal::TooDeep));
 }
@@ -53,5 +71,10 @@ fn long_texts() {
 #[test]
 fn long_lookup() {
     let looking = || lookup(&filled("* a\n:properties:\n:a:\n:end:\n"), 0, b"b").is_err();
-    assert!(thread::Builder::new().stack_size(STACK).spawn(looking).unwrap().join().unwrap());
+    assert!(thread::Builder::new()
+        .stack_size(STACK)
+        .spawn(looking)
+        .unwrap()
+        .join()
+        .unwrap());
 }

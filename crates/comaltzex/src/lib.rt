@@ -1,11 +1,16 @@
 // The C interface: numbers in, numbers out. A slice is passed as a pointer and then a length.
 ghost use mathlib.Core.Path.{_≡_};
-ghost use Rattle.comaltzex.specs.Numbers.{ReadsAs, LooksUpAs};
+ghost use Rattle.reading.specs.Records.{recordSize};
+ghost use Rattle.comaltzex.specs.Numbers.{ReadsAs, LooksUpAs, version};
 use lookup::lookup::Answer as Lookup;
 use lookup::lookup::lookup;
 use reading::answer::Answer;
 use reading::read::read;
+use reading::record;
 use text::number;
+
+// The version of this interface, as specs/Numbers has it.
+const VERSION: u32 = 1;
 
 // The number of a reading call's answer and its count.
 #[repr(C)]
@@ -73,4 +78,20 @@ fn refused(number: u32) -> Value
         start: 0,
         end: 0,
     }
+}
+
+// How many numbers of a table a record takes.
+#[no_mangle]
+pub extern "C" fn comaltzex_record_size() -> usize
+    ensures { λ r. ⌜ r ≡ recordSize ⌝ }
+{
+    record::SIZE
+}
+
+// The version of this interface.
+#[no_mangle]
+pub extern "C" fn comaltzex_version() -> u32
+    ensures { λ r. ⌜ r ≡ version ⌝ }
+{
+    VERSION
 }
