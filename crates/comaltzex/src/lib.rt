@@ -1,12 +1,12 @@
 // The C interface: numbers in, numbers out. A slice is passed as a pointer and then a length.
 ghost use mathlib.Core.Path.{_≡_};
-ghost use Rattle.reading.specs.Records.{recordSize};
+ghost use Rattle.table.specs.Records.{recordSize};
 ghost use Rattle.comaltzex.specs.Numbers.{ReadsAs, LooksUpAs, version};
 use lookup::lookup::Answer as Lookup;
 use lookup::lookup::lookup;
 use reading::answer::Answer;
 use reading::read::read;
-use reading::record;
+use table::record;
 use text::number;
 
 // The version of this interface, as specs/Numbers has it.
