@@ -35,7 +35,7 @@ pub data Heads (s : List ℕ) : Earlier → ℕ → ℕ → List Record → Type
 -- ---- the heading at p
 
 module _ (s : List ℕ) (p : ℕ) (l : p < length s) where
-  lineAt-to : p + length (lineAt s p) ≤ length s
+  pub lineAt-to : p + length (lineAt s p) ≤ length s
   lineAt-to = lineIn-to s p (length s) (omega arith) (omega arith)
 
   pub lineAt-some : 0 < length (lineAt s p)
