@@ -38,13 +38,13 @@ Tiled a e (r ∷ R) = (r .start ≡ a) × Tiled (r .end) e R
 
 -- ---- heading lines
 
-unfoldable pub headingLinesFrom : ℕ → List Line → List ℕ
-headingLinesFrom p [] = []
-headingLinesFrom p (l ∷ ls) = elim (isHeading l) [ true ↦ p ∷ headingLinesFrom (p + length l) ls | false ↦ headingLinesFrom (p + length l) ls ]
+unfoldable pub headingLinesIn : ℕ → List Line → List ℕ
+headingLinesIn p [] = []
+headingLinesIn p (l ∷ ls) = elim (isHeading l) [ true ↦ p ∷ headingLinesIn (p + length l) ls | false ↦ headingLinesIn (p + length l) ls ]
 
 -- where the heading lines of a text start, and where the heading records of a table do
 unfoldable pub headingLines : List ℕ → List ℕ
-headingLines s = headingLinesFrom 0 (lines s)
+headingLines s = headingLinesIn 0 (lines s)
 
 unfoldable pub headingStarts : List Record → List ℕ
 headingStarts [] = []

@@ -17,7 +17,7 @@ use Rattle.text.proofs.Laws.LinesIn.{linesIn-nil, linesIn-drop, linesIn-step}
 use Rattle.rules.specs.Headings.{isHeading}
 use Rattle.rules.specs.Kind
 use Rattle.rules.proofs.Basics.{All, all-nil, all-cons, all-map}
-use Rattle.table.specs.Proper.{keepIf, withParent, headingLinesFrom, headingLines, headingStarts}
+use Rattle.table.specs.Proper.{keepIf, withParent, headingLinesIn, headingLines, headingStarts}
 use Rattle.table.specs.Sections.{lineAt}
 use Rattle.table.specs.declared.record.Record.{Record}
 
@@ -63,15 +63,15 @@ headingStarts-none (all-cons {a = r} p h) = rw (ne-eqb (r .kind) Kind.heading p,
 -- ---- heading lines from byte p on
 
 abbrev pub headingLinesFrom : List ℕ → ℕ → List ℕ
-headingLinesFrom s p = headingLinesFrom p (linesIn s p (length s))
+headingLinesFrom s p = headingLinesIn p (linesIn s p (length s))
 
-headingLinesFrom-skip : (p : ℕ) (ls : List Line)
-    → let n = leading (λ l. not (isHeading l)) ls in headingLinesFrom p ls ≡ headingLinesFrom (p + size (take n ls)) (drop n ls)
-unfolding headingLinesFrom leading size
-headingLinesFrom-skip p [] = refl
-headingLinesFrom-skip p (l ∷ ls) = cases (isHeading l)
+headingLinesIn-skip : (p : ℕ) (ls : List Line)
+    → let n = leading (λ l. not (isHeading l)) ls in headingLinesIn p ls ≡ headingLinesIn (p + size (take n ls)) (drop n ls)
+unfolding headingLinesIn leading size
+headingLinesIn-skip p [] = refl
+headingLinesIn-skip p (l ∷ ls) = cases (isHeading l)
     (λ e. rw (e, leading) (rw add-zero))
-    (λ e. rw (e, leading) (rw (e, headingLinesFrom, ← add-assoc) (headingLinesFrom-skip (p + length l) ls)))
+    (λ e. rw (e, leading) (rw (e, headingLinesIn, ← add-assoc) (headingLinesIn-skip (p + length l) ls)))
 
 module _ (s : List ℕ) where
   pub headingLinesFrom-zero : headingLinesFrom s 0 ≡ headingLines s
@@ -79,16 +79,16 @@ module _ (s : List ℕ) where
   headingLinesFrom-zero = rw take-length
 
   pub headingLinesFrom-end : headingLinesFrom s (length s) ≡ []
-  unfolding headingLinesFrom
+  unfolding headingLinesIn
   headingLinesFrom-end = rw (linesIn-nil s (length s) (length s) (omega arith))
 
   pub headingLinesFrom-here : (p : ℕ) → p < length s → isHeading (lineAt s p) ≡ true
       → headingLinesFrom s p ≡ p ∷ headingLinesFrom s (p + length (lineAt s p))
-  unfolding headingLinesFrom
-  headingLinesFrom-here p h e = rw (linesIn-step s p (length s) h (omega arith)) (rw (e, headingLinesFrom))
+  unfolding headingLinesIn
+  headingLinesFrom-here p h e = rw (linesIn-step s p (length s) h (omega arith)) (rw (e, headingLinesIn))
 
   pub headingLinesFrom-next : (p : ℕ) → headingLinesFrom s p ≡ headingLinesFrom s (nextLine isHeading s p)
   unfolding nextLine
   headingLinesFrom-next p =
       let ls = linesIn s p (length s) in
-      rw (linesIn-drop s p (length s) (leading (λ l. not (isHeading l)) ls)) (headingLinesFrom-skip p ls)
+      rw (linesIn-drop s p (length s) (leading (λ l. not (isHeading l)) ls)) (headingLinesIn-skip p ls)

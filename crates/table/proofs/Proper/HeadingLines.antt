@@ -17,7 +17,7 @@ use Rattle.rules.specs.Kind
 use Rattle.rules.proofs.Laws.Headings.{stars-some, stars-le}
 use Rattle.text.proofs.Laws.LineStarts.{linesIn-whole}
 use Rattle.rules.proofs.Laws.PropertyDrawers.{HeadingLine}
-use Rattle.table.specs.Proper.{headingLinesFrom, headingLines, headingStarts, Proper}
+use Rattle.table.specs.Proper.{headingLinesIn, headingLines, headingStarts, Proper}
 use Rattle.table.specs.Records.{at}
 use Rattle.table.proofs.Basics.{on, split}
 use Rattle.table.specs.declared.record.Record.{Record}
@@ -77,19 +77,19 @@ member-start (r ∷ R) p m =
 -- ---- heading lines and their starts
 
 module _ (p : ℕ) (l : Line) (ls : List Line) where
-  lines-yes : isHeading l ≡ true → headingLinesFrom p (l ∷ ls) ≡ p ∷ headingLinesFrom (p + length l) ls
-  unfolding headingLinesFrom
-  lines-yes h = rw (h, headingLinesFrom)
+  lines-yes : isHeading l ≡ true → headingLinesIn p (l ∷ ls) ≡ p ∷ headingLinesIn (p + length l) ls
+  unfolding headingLinesIn
+  lines-yes h = rw (h, headingLinesIn)
 
-  lines-no : isHeading l ≡ false → headingLinesFrom p (l ∷ ls) ≡ headingLinesFrom (p + length l) ls
-  unfolding headingLinesFrom
-  lines-no h = rw (h, headingLinesFrom)
+  lines-no : isHeading l ≡ false → headingLinesIn p (l ∷ ls) ≡ headingLinesIn (p + length l) ls
+  unfolding headingLinesIn
+  lines-no h = rw (h, headingLinesIn)
 
 no-heading : isHeading [] ≡ true → ⊥
 no-heading h = omega (arith, stars-some [] h, stars-le [])
 
 -- after n lines
-line-member : (p : ℕ) (ls : List Line) (n : ℕ) → isHeading (headLine (drop n ls)) ≡ true → List·Memᴰ (p + size (take n ls)) (headingLinesFrom p ls)
+line-member : (p : ℕ) (ls : List Line) (n : ℕ) → isHeading (headLine (drop n ls)) ≡ true → List·Memᴰ (p + size (take n ls)) (headingLinesIn p ls)
 unfolding headLine size
 line-member p [] n h = absurd (no-heading (rw (drop-nil n) at h))
 line-member p (l ∷ ls) zero h = rw (lines-yes p l ls h) (List·Memᴰ·head {x = p} (omega arith))
@@ -105,8 +105,8 @@ next-line : (a : ℕ) (l : Line) (ls : List Line) (p : ℕ) → LineAfter (a + l
 unfolding size
 next-line a l ls p h = (suc (h .0), h .1, omega (arith, h .2))
 
-member-line : (a : ℕ) (ls : List Line) (p : ℕ) → List·Memᴰ p (headingLinesFrom a ls) → LineAfter a ls p
-unfolding headingLinesFrom headLine size
+member-line : (a : ℕ) (ls : List Line) (p : ℕ) → List·Memᴰ p (headingLinesIn a ls) → LineAfter a ls p
+unfolding headingLinesIn headLine size
 member-line a [] p m = absurd (List·Memᴰ·not-nil m)
 member-line a (l ∷ ls) p m = cases (isHeading l)
     (λ e. on (List·Memᴰ·cases-cons (rw (lines-yes a l ls e) at m))
@@ -131,8 +131,8 @@ rising-member : {a p : ℕ} {X : List ℕ} → Rising a X → List·Memᴰ p X �
 rising-member rising-nil m = absurd (List·Memᴰ·not-nil m)
 rising-member (rising-cons i r) m = on (List·Memᴰ·cases-cons m) (λ e. omega arith) (λ n. omega (arith, rising-member r n))
 
-lines-rising : (p : ℕ) (ls : List Line) → Rising p (headingLinesFrom p ls)
-unfolding headingLinesFrom
+lines-rising : (p : ℕ) (ls : List Line) → Rising p (headingLinesIn p ls)
+unfolding headingLinesIn
 lines-rising p [] = rising-nil
 lines-rising p (l ∷ ls) =
     let r = lines-rising (p + length l) ls in
