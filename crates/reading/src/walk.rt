@@ -6,11 +6,11 @@ ghost use Rattle.text.specs.Limits.{depthLimit, textLimit};
 ghost use Rattle.text.specs.Parts.{linesIn, nextLine, LineStart};
 ghost use Rattle.rules.specs.Headings.{isHeading};
 ghost use Rattle.rules.specs.Places.{placeAt};
-ghost use Rattle.rules.specs.Findings.{LineOf, NoEnd};
+ghost use Rattle.rules.specs.Findings.{LineOf, InScope, NoEnd};
 ghost use Rattle.table.specs.Makers.{childRecord};
 ghost use Rattle.table.specs.Nesting.{depthIn};
 ghost use Rattle.reading.specs.Walk.{Takes, entriesFrom, elementsTo, linesTo, sectionOf, sectionEntries, far};
-ghost use Rattle.reading.specs.Walk.{Range, ElementIn, StepAt, recordOf, withHeld};
+ghost use Rattle.reading.specs.Walk.{Range, RangeIn, ElementIn, StepAt, recordOf, withHeld};
 use crate::sink::Sink;
 use crate::sink::emit;
 use rules::closer::may_end;
@@ -20,6 +20,7 @@ use rules::place::Place;
 use rules::place::first_place;
 use rules::place::next_place;
 use rules::rule::Element;
+use rules::scope::Scope;
 use table::record::Record;
 use text::bytes::Class;
 use text::bytes::run_end;
@@ -114,37 +115,40 @@ fn depth_in(depth: usize, kind: usize) -> usize
 }
 
 // Whether an `:END:` line may still follow the first line of an element of a kind. Only a paragraph's can have failed to open a drawer.
-fn ends_after(text: &[u8], line: LineSpan, to: usize, before: bool, kind: usize) -> bool
-    requires { ⌜ LineOf (now text) line to × (before ≡ false → NoEnd (now text) (line .start) to) ⌝ }
-    ensures { λ r. ⌜ (r ≡ false → NoEnd (now (text .entry)) (line .end) to) ⌝ }
+fn ends_after(text: &[u8], line: LineSpan, scope: Scope, kind: usize) -> bool
+    requires { ⌜ InScope (now text) line scope ⌝ }
+    ensures { λ r. ⌜ (r ≡ false → NoEnd (now (text .entry)) (line .end) (scope .end)) ⌝ }
 {
     if kind != kind::PARAGRAPH {
-        return before;
+        return scope.ends;
     }
-    may_end(text, line, to, before)
+    may_end(text, line, scope)
 }
 
-// An element, where the next one starts, its place, and whether an `:END:` line may still follow.
+// An element, where the next one starts, and the scope there.
 pub struct Step {
     pub e: Element,
     pub end: usize,
-    pub place: Place,
-    pub ends: bool,
+    pub scope: Scope,
 }
 
 // The element at a line of a range, and how to go on after it.
-fn next_element(text: &[u8], at: usize, to: usize, place: Place, ends: bool) -> Step
-    requires { ⌜ Range (now text) at to × (at < to) × (place ≡ placeAt (now text) at) × (ends ≡ false → NoEnd (now text) at to) ⌝ }
-    ensures { λ r. ⌜ StepAt (now (text .entry)) at to r ⌝ }
+fn next_element(text: &[u8], at: usize, scope: Scope) -> Step
+    requires { ⌜ RangeIn (now text) at scope × (at < scope .end) ⌝ }
+    ensures { λ r. ⌜ StepAt (now (text .entry)) at (scope .end) r ⌝ }
 {
-    let line = line_at(text, at, to);
-    let e = element_at(text, line, to, place, ends);
-    let end = first_line(text, e.end, to);
+    let line = line_at(text, at, scope.end);
+    let e = element_at(text, line, scope);
+    let end = first_line(text, e.end, scope.end);
+    let place = scope.place;
     Step {
         e: e,
         end: end,
-        place: next_place(place, e.kind, end == e.end),
-        ends: ends_after(text, line, to, ends, e.kind),
+        scope: Scope {
+            end: scope.end,
+            place: next_place(place, e.kind, end == e.end),
+            ends: ends_after(text, line, scope, e.kind),
+        },
     }
 }
 
@@ -153,31 +157,30 @@ fn next_element(text: &[u8], at: usize, to: usize, place: Place, ends: bool) -> 
 fn read_elements(
     text: &[u8],
     from: usize,
-    to: usize,
-    place: Place,
+    scope: Scope,
     depth: usize,
     parent: usize,
     table: &mut [u32],
     sink: Sink,
 ) -> Sink
-    requires { ⌜ Range (now text) from to × (from < to → place ≡ placeAt (now text) from) × (depth ≤ depthLimit) × (parent ≤ far) × (sink .count ≤ 2 * from + 2) ⌝ }
-    ensures { λ r. ⌜ Takes (now (table .entry)) sink (entriesFrom (now (text .entry)) (elementsTo to) parent depth from (sink .count)) (now (table .exit)) r ⌝ }
-    ensures { λ r. ⌜ r .count + 2 * from ≤ sink .count + 2 * to ⌝ }
+    requires { ⌜ RangeIn (now text) from scope × (depth ≤ depthLimit) × (parent ≤ far) × (sink .count ≤ 2 * from + 2) ⌝ }
+    ensures { λ r. ⌜ Takes (now (table .entry)) sink (entriesFrom (now (text .entry)) (elementsTo (scope .end)) parent depth from (sink .count)) (now (table .exit)) r ⌝ }
+    ensures { λ r. ⌜ r .count + 2 * from ≤ sink .count + 2 * scope .end ⌝ }
 {
+    let to = scope.end;
     if to <= from {
         return sink;
     }
     let mut at = from;
     let mut kept = sink;
-    let mut step = next_element(text, from, to, place, true);
+    let mut step = next_element(text, from, scope);
     loop {
         kept = read_element(text, at, step.end, step.e, depth, parent, table, kept);
         if to <= step.end {
             return kept;
         }
         at = step.end;
-        let here = step.place;
-        step = next_element(text, at, to, here, step.ends);
+        step = next_element(text, at, step.scope);
     }
 }
 
@@ -221,16 +224,12 @@ fn read_element(
         return kept;
     }
     let first = first_line(text, e.from, e.to);
-    read_elements(
-        text,
-        first,
-        e.to,
-        Place::Elsewhere,
-        inner,
-        index,
-        table,
-        kept,
-    )
+    let scope = Scope {
+        end: e.to,
+        place: Place::Elsewhere,
+        ends: true,
+    };
+    read_elements(text, first, scope, inner, index, table, kept)
 }
 
 // The section from the line after a heading line, or from the text's start, up to the next heading line; none where all of it is blank.
@@ -251,7 +250,11 @@ pub fn read_section(
     if to <= at {
         return sink;
     }
-    let here = first_place(place, from < at);
+    let scope = Scope {
+        end: to,
+        place: first_place(place, from < at),
+        ends: true,
+    };
     let index = sink.count;
     let r = Record {
         kind: kind::SECTION,
@@ -263,5 +266,5 @@ pub fn read_section(
         detail: 0,
     };
     let kept = emit(table, sink, r, 0);
-    read_elements(text, at, to, here, 0, index, table, kept)
+    read_elements(text, at, scope, 0, index, table, kept)
 }

@@ -4,12 +4,13 @@ ghost use lib.ListN.{length};
 ghost use Rattle.text.specs.Parts.{part};
 ghost use Rattle.rules.specs.Names.{numberIn};
 ghost use Rattle.rules.specs.Elements.{block, verbatimNames, greaterDetail};
-ghost use Rattle.rules.specs.Findings.{LineOf, ruleOn};
+ghost use Rattle.rules.specs.Findings.{InScope, ruleOn};
 use crate::closer::Closer;
 use crate::closer::find_closer;
 use crate::kind;
 use crate::rule::Element;
 use crate::rule::Rule;
+use crate::scope::Scope;
 use text::line::LineSpan;
 use text::marks::word_end;
 use text::word::begins_with;
@@ -53,9 +54,9 @@ fn greater_detail(text: &[u8], from: usize, to: usize) -> usize
 }
 
 // A block, where its closer stands before the end.  [01 rule 3]
-pub fn try_block(text: &[u8], line: LineSpan, to: usize) -> Rule
-    requires { ⌜ LineOf (now text) line to ⌝ }
-    ensures { λ r. ⌜ r ≡ ruleOn block (now (text .entry)) line to ⌝ }
+pub fn try_block(text: &[u8], line: LineSpan, scope: Scope) -> Rule
+    requires { ⌜ InScope (now text) line scope ⌝ }
+    ensures { λ r. ⌜ r ≡ ruleOn block (now (text .entry)) line scope ⌝ }
 {
     if !begins_with(text, line.from, line.to, b"#+begin_") {
         return Rule::Fails;
@@ -66,7 +67,7 @@ pub fn try_block(text: &[u8], line: LineSpan, to: usize) -> Rule
         return Rule::Fails;
     }
     let inner = line.end;
-    let Closer::At(close, end, n) = find_closer(text, inner, to, b"#+end_", &text[name..name_end])
+    let Closer::At(close, end, n) = find_closer(text, inner, scope.end, b"#+end_", &text[name..name_end])
     else {
         return Rule::Fails;
     };

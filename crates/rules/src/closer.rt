@@ -5,7 +5,8 @@ ghost use Prim.Native.Nat.{_≤_, _<_};
 ghost use lib.ListN.{length};
 ghost use Rattle.text.specs.Parts.{linesIn};
 ghost use Rattle.rules.specs.Elements.{linesBefore};
-ghost use Rattle.rules.specs.Findings.{LineOf, closerAt, endLine, NoEnd, KeyBytes, keyByte};
+ghost use Rattle.rules.specs.Findings.{InScope, closerAt, endLine, NoEnd, KeyBytes, keyByte};
+use crate::scope::Scope;
 use text::bytes::Class;
 use text::bytes::lower;
 use text::bytes::run_end;
@@ -75,11 +76,11 @@ pub fn find_end(text: &[u8], from: usize, to: usize) -> Closer
 }
 
 // Whether an `:END:` line may still follow a line that starts no element: asked anew only at a line that could have opened a drawer.
-pub fn may_end(text: &[u8], line: LineSpan, to: usize, before: bool) -> bool
-    requires { ⌜ LineOf (now text) line to × (before ≡ false → NoEnd (now text) (line .start) to) ⌝ }
-    ensures { λ r. ⌜ (r ≡ false → NoEnd (now (text .entry)) (line .end) to) ⌝ }
+pub fn may_end(text: &[u8], line: LineSpan, scope: Scope) -> bool
+    requires { ⌜ InScope (now text) line scope ⌝ }
+    ensures { λ r. ⌜ (r ≡ false → NoEnd (now (text .entry)) (line .end) (scope .end)) ⌝ }
 {
-    if !before {
+    if !scope.ends {
         return false;
     }
     let from = line.from;
@@ -89,7 +90,7 @@ pub fn may_end(text: &[u8], line: LineSpan, to: usize, before: bool) -> bool
     if text[from] != b':' {
         return true;
     }
-    let Closer::At(_, _, _) = find_end(text, line.end, to) else {
+    let Closer::At(_, _, _) = find_end(text, line.end, scope.end) else {
         return false;
     };
     true

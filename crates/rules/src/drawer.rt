@@ -1,10 +1,9 @@
 ghost use mathlib.Core.Path.{_≡_};
-ghost use mathlib.Core.Bool.{false};
 ghost use Rattle.text.specs.Parts.{lineIn};
 ghost use Rattle.rules.specs.Places.{allowsProperties};
 ghost use Rattle.rules.specs.LineTests.{isDrawerLine};
 ghost use Rattle.rules.specs.Elements.{drawer, propertyDrawer};
-ghost use Rattle.rules.specs.Findings.{LineOf, NoEnd, ruleOn};
+ghost use Rattle.rules.specs.Findings.{LineOf, InScope, ruleOn};
 use crate::closer::Closer;
 use crate::closer::find_end;
 use crate::kind;
@@ -13,6 +12,7 @@ use crate::property::find_properties_end;
 use crate::property::is_between_colons;
 use crate::rule::Element;
 use crate::rule::Rule;
+use crate::scope::Scope;
 use text::bytes::Class;
 use text::bytes::run_end;
 use text::line::LineSpan;
@@ -29,10 +29,11 @@ fn allows_properties(place: Place) -> bool
 }
 
 // A property drawer: node property lines only, up to the first `:END:`.  [01 rule 2]
-pub fn try_property_drawer(text: &[u8], line: LineSpan, to: usize, place: Place) -> Rule
-    requires { ⌜ LineOf (now text) line to ⌝ }
-    ensures { λ r. ⌜ r ≡ ruleOn (propertyDrawer place) (now (text .entry)) line to ⌝ }
+pub fn try_property_drawer(text: &[u8], line: LineSpan, scope: Scope) -> Rule
+    requires { ⌜ InScope (now text) line scope ⌝ }
+    ensures { λ r. ⌜ r ≡ ruleOn (propertyDrawer (scope .place)) (now (text .entry)) line scope ⌝ }
 {
+    let place = scope.place;
     if !allows_properties(place) {
         return Rule::Fails;
     }
@@ -40,7 +41,7 @@ pub fn try_property_drawer(text: &[u8], line: LineSpan, to: usize, place: Place)
         return Rule::Fails;
     }
     let inner = line.end;
-    let Closer::At(close, end, n) = find_properties_end(text, inner, to) else {
+    let Closer::At(close, end, n) = find_properties_end(text, inner, scope.end) else {
         return Rule::Fails;
     };
     Rule::Holds(Element {
@@ -69,19 +70,19 @@ fn is_drawer_line(text: &[u8], line: LineSpan, to: usize) -> bool
     !is_word(text, from + 1, end - 1, b"end")
 }
 
-// A drawer, where an `:END:` line stands before the end. `ends` is false only where it is known that none does.  [01 rule 4]
-pub fn try_drawer(text: &[u8], line: LineSpan, to: usize, ends: bool) -> Rule
-    requires { ⌜ LineOf (now text) line to × (ends ≡ false → NoEnd (now text) (line .end) to) ⌝ }
-    ensures { λ r. ⌜ r ≡ ruleOn drawer (now (text .entry)) line to ⌝ }
+// A drawer, where an `:END:` line stands before the end.  [01 rule 4]
+pub fn try_drawer(text: &[u8], line: LineSpan, scope: Scope) -> Rule
+    requires { ⌜ InScope (now text) line scope ⌝ }
+    ensures { λ r. ⌜ r ≡ ruleOn drawer (now (text .entry)) line scope ⌝ }
 {
-    if !ends {
+    if !scope.ends {
         return Rule::Fails;
     }
-    if !is_drawer_line(text, line, to) {
+    if !is_drawer_line(text, line, scope.end) {
         return Rule::Fails;
     }
     let inner = line.end;
-    let Closer::At(close, end, n) = find_end(text, inner, to) else {
+    let Closer::At(close, end, n) = find_end(text, inner, scope.end) else {
         return Rule::Fails;
     };
     Rule::Holds(Element {

@@ -1,11 +1,13 @@
 ghost use mathlib.Core.Path.{_≡_};
 ghost use mathlib.Core.Bool.{false};
+ghost use mathlib.Core.List.{[]};
 ghost use Prim.Native.Nat.{_+_, _≤_};
 ghost use lib.ListN.{length, take};
+ghost use Rattle.text.specs.Bytes.{lower};
 ghost use Rattle.text.specs.Lines.{size};
 ghost use Rattle.text.specs.Parts.{linesIn};
-ghost use Rattle.rules.specs.Elements.{firstOf, rules1to9, paragraphLines, element};
-ghost use Rattle.rules.specs.Findings.{LineOf, NoEnd, Plain, ruleOn, spanned, colonRules, hashRules};
+ghost use Rattle.rules.specs.Elements.{firstOf, rules3to9, rules1to9, paragraphLines};
+ghost use Rattle.rules.specs.Findings.{InScope, NoEnd, wanting, ruleOn, elementOn};
 use crate::block::try_block;
 use crate::closer::may_end;
 use crate::drawer::try_drawer;
@@ -20,6 +22,7 @@ use crate::place::Place;
 use crate::planning::try_planning;
 use crate::rule::Element;
 use crate::rule::Rule;
+use crate::scope::Scope;
 use text::bytes::Class;
 use text::bytes::run_end;
 use text::line::LineSpan;
@@ -27,38 +30,37 @@ use text::line::line_at;
 use text::line::line_end;
 
 // Rules 2, 4 and 7: those of a body that starts with `:`.
-fn try_colon(text: &[u8], line: LineSpan, to: usize, place: Place, ends: bool) -> Rule
-    requires { ⌜ LineOf (now text) line to × (ends ≡ false → NoEnd (now text) (line .end) to) ⌝ }
-    ensures { λ r. ⌜ r ≡ ruleOn (firstOf (colonRules place)) (now (text .entry)) line to ⌝ }
+fn try_colon(text: &[u8], line: LineSpan, scope: Scope) -> Rule
+    requires { ⌜ InScope (now text) line scope ⌝ }
+    ensures { λ r. ⌜ r ≡ ruleOn (firstOf (wanting 58 (rules1to9 (scope .place)))) (now (text .entry)) line scope ⌝ }
 {
-    if let Rule::Holds(e) = try_property_drawer(text, line, to, place) {
+    if let Rule::Holds(e) = try_property_drawer(text, line, scope) {
         return Rule::Holds(e);
     }
-    if let Rule::Holds(e) = try_drawer(text, line, to, ends) {
+    if let Rule::Holds(e) = try_drawer(text, line, scope) {
         return Rule::Holds(e);
     }
-    try_run(text, line, to, LineClass::FixedWidth, kind::FIXED_WIDTH)
+    try_run(text, line, scope, LineClass::FixedWidth, kind::FIXED_WIDTH)
 }
 
 // Rules 3, 6 and 9: those of a body that starts with `#`.
-fn try_hash(text: &[u8], line: LineSpan, to: usize) -> Rule
-    requires { ⌜ LineOf (now text) line to ⌝ }
-    ensures { λ r. ⌜ r ≡ ruleOn (firstOf hashRules) (now (text .entry)) line to ⌝ }
+fn try_hash(text: &[u8], line: LineSpan, scope: Scope) -> Rule
+    requires { ⌜ InScope (now text) line scope ⌝ }
+    ensures { λ r. ⌜ r ≡ ruleOn (firstOf (wanting 35 (rules1to9 (scope .place)))) (now (text .entry)) line scope ⌝ }
 {
-    if let Rule::Holds(e) = try_block(text, line, to) {
+    if let Rule::Holds(e) = try_block(text, line, scope) {
         return Rule::Holds(e);
     }
-    if let Rule::Holds(e) = try_run(text, line, to, LineClass::Comment, kind::COMMENT) {
+    if let Rule::Holds(e) = try_run(text, line, scope, LineClass::Comment, kind::COMMENT) {
         return Rule::Holds(e);
     }
-    try_keyword(text, line, to)
+    try_keyword(text, line, scope)
 }
 
-// The first of rules 1 to 9 that holds. The first byte after the indentation tells which can. `ends` is false only
-// where no `:END:` line follows.
-pub fn find_rule(text: &[u8], line: LineSpan, to: usize, place: Place, ends: bool) -> Rule
-    requires { ⌜ LineOf (now text) line to × (ends ≡ false → NoEnd (now text) (line .end) to) ⌝ }
-    ensures { λ r. ⌜ r ≡ ruleOn (firstOf (rules1to9 place)) (now (text .entry)) line to ⌝ }
+// The first of rules 1 to 9 that holds. The first byte after the indentation tells which can.
+pub fn find_rule(text: &[u8], line: LineSpan, scope: Scope) -> Rule
+    requires { ⌜ InScope (now text) line scope ⌝ }
+    ensures { λ r. ⌜ r ≡ ruleOn (firstOf (rules1to9 (scope .place))) (now (text .entry)) line scope ⌝ }
 {
     let from = line.from;
     if line.to <= from {
@@ -66,11 +68,11 @@ pub fn find_rule(text: &[u8], line: LineSpan, to: usize, place: Place, ends: boo
     }
     let first = text[from];
     match first {
-        b'C'..=b'D' | b'c'..=b'd' | b'S' | b's' => try_planning(text, line, to, place),
-        b':' => try_colon(text, line, to, place, ends),
-        b'#' => try_hash(text, line, to),
-        b'|' => try_table(text, line, to),
-        b'-' => try_horizontal_rule(text, line, to),
+        b'C'..=b'D' | b'c'..=b'd' | b'S' | b's' => try_planning(text, line, scope),
+        b':' => try_colon(text, line, scope),
+        b'#' => try_hash(text, line, scope),
+        b'|' => try_table(text, line, scope),
+        b'-' => try_horizontal_rule(text, line, scope),
         _ => Rule::Fails,
     }
 }
@@ -78,7 +80,7 @@ pub fn find_rule(text: &[u8], line: LineSpan, to: usize, place: Place, ends: boo
 // Whether a line may be other than a further line of a paragraph, by its first byte after the indentation, which is not byte 10:
 // it may be blank, or start one of rules 3 to 9.
 fn may_stop(b: u8) -> bool
-    ensures { λ r. ⌜ (r ≡ false → (b ≡ 13 → ⊥) × Plain b) ⌝ }
+    ensures { λ r. ⌜ (r ≡ false → (b ≡ 13 → ⊥) × (wanting (lower b) rules3to9 ≡ [])) ⌝ }
 {
     match b {
         13 | b':' | b'#' | b'|' | b'-' => true,
@@ -88,12 +90,13 @@ fn may_stop(b: u8) -> bool
 
 // The end of the further lines of a paragraph: up to a blank line, the end, or a line where a rule holds.  [01 rule 10]
 // The first byte after the indentation spares most lines the search for a rule.
-fn paragraph_end(text: &[u8], from: usize, to: usize, ends: bool) -> usize
-    requires { ⌜ (from ≤ to) × (to ≤ length (now text)) × (ends ≡ false → NoEnd (now text) from to) ⌝ }
-    ensures { λ r. ⌜ r ≡ from + size (take (paragraphLines (linesIn (now (text .entry)) from to)) (linesIn (now (text .entry)) from to)) ⌝ }
+fn paragraph_end(text: &[u8], from: usize, scope: Scope) -> usize
+    requires { ⌜ (from ≤ scope .end) × (scope .end ≤ length (now text)) × (scope .ends ≡ false → NoEnd (now text) from (scope .end)) ⌝ }
+    ensures { λ r. ⌜ r ≡ from + size (take (paragraphLines (linesIn (now (text .entry)) from (scope .end))) (linesIn (now (text .entry)) from (scope .end))) ⌝ }
 {
+    let to = scope.end;
     let mut at = from;
-    let mut still = ends;
+    let mut still = scope.ends;
     while at < to {
         let body = run_end(text, at, to, Class::Indent);
         if to <= body {
@@ -108,10 +111,11 @@ fn paragraph_end(text: &[u8], from: usize, to: usize, ends: bool) -> usize
             if line.to <= line.from {
                 return at;
             }
-            if let Rule::Holds(_) = find_rule(text, line, to, Place::Elsewhere, still) {
+            let here = Scope { end: to, place: Place::Elsewhere, ends: still };
+            if let Rule::Holds(_) = find_rule(text, line, here) {
                 return at;
             }
-            still = may_end(text, line, to, still);
+            still = may_end(text, line, here);
             at = line.end;
         } else {
             at = line_end(text, body, to);
@@ -120,15 +124,15 @@ fn paragraph_end(text: &[u8], from: usize, to: usize, ends: bool) -> usize
     at
 }
 
-// The element at a line, whose place and container's end are given.
-pub fn element_at(text: &[u8], line: LineSpan, to: usize, place: Place, ends: bool) -> Element
-    requires { ⌜ LineOf (now text) line to × (ends ≡ false → NoEnd (now text) (line .start) to) ⌝ }
-    ensures { λ r. ⌜ r ≡ spanned (line .start) (linesIn (now (text .entry)) (line .start) to) (element place (linesIn (now (text .entry)) (line .start) to)) ⌝ }
+// The element at a line.
+pub fn element_at(text: &[u8], line: LineSpan, scope: Scope) -> Element
+    requires { ⌜ InScope (now text) line scope ⌝ }
+    ensures { λ r. ⌜ r ≡ elementOn (now (text .entry)) line scope ⌝ }
 {
-    if let Rule::Holds(e) = find_rule(text, line, to, place, ends) {
+    if let Rule::Holds(e) = find_rule(text, line, scope) {
         return e;
     }
-    let end = paragraph_end(text, line.end, to, ends);
+    let end = paragraph_end(text, line.end, scope);
     Element {
         kind: kind::PARAGRAPH,
         end: end,

@@ -1,17 +1,18 @@
 ghost use mathlib.Core.Path.{_≡_};
 ghost use Rattle.rules.specs.Elements.{horizontalRule};
-ghost use Rattle.rules.specs.Findings.{LineOf, ruleOn};
+ghost use Rattle.rules.specs.Findings.{InScope, ruleOn};
 use crate::kind;
 use crate::rule::Element;
 use crate::rule::Rule;
+use crate::scope::Scope;
 use text::bytes::Class;
 use text::bytes::run_end;
 use text::line::LineSpan;
 
 // A horizontal rule: five hyphens or more.  [01 rule 8]
-pub fn try_horizontal_rule(text: &[u8], line: LineSpan, to: usize) -> Rule
-    requires { ⌜ LineOf (now text) line to ⌝ }
-    ensures { λ r. ⌜ r ≡ ruleOn horizontalRule (now (text .entry)) line to ⌝ }
+pub fn try_horizontal_rule(text: &[u8], line: LineSpan, scope: Scope) -> Rule
+    requires { ⌜ InScope (now text) line scope ⌝ }
+    ensures { λ r. ⌜ r ≡ ruleOn horizontalRule (now (text .entry)) line scope ⌝ }
 {
     if line.to - line.from < 5 {
         return Rule::Fails;

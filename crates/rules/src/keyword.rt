@@ -4,10 +4,11 @@ ghost use lib.ListN.{length};
 ghost use Rattle.text.specs.Parts.{part};
 ghost use Rattle.rules.specs.Names.{throughColon};
 ghost use Rattle.rules.specs.Elements.{keyword};
-ghost use Rattle.rules.specs.Findings.{LineOf, ruleOn};
+ghost use Rattle.rules.specs.Findings.{InScope, ruleOn};
 use crate::kind;
 use crate::rule::Element;
 use crate::rule::Rule;
+use crate::scope::Scope;
 use text::bytes::Class;
 use text::bytes::run_end;
 use text::line::LineSpan;
@@ -30,9 +31,9 @@ fn after_last_colon(text: &[u8], from: usize, to: usize) -> usize
 }
 
 // A keyword.  [01 rule 9]
-pub fn try_keyword(text: &[u8], line: LineSpan, to: usize) -> Rule
-    requires { ⌜ LineOf (now text) line to ⌝ }
-    ensures { λ r. ⌜ r ≡ ruleOn keyword (now (text .entry)) line to ⌝ }
+pub fn try_keyword(text: &[u8], line: LineSpan, scope: Scope) -> Rule
+    requires { ⌜ InScope (now text) line scope ⌝ }
+    ensures { λ r. ⌜ r ≡ ruleOn keyword (now (text .entry)) line scope ⌝ }
 {
     if !begins_with(text, line.from, line.to, b"#+") {
         return Rule::Fails;

@@ -6,13 +6,14 @@ ghost use Rattle.text.specs.Bytes.{isNonBlank};
 ghost use Rattle.text.specs.Runs.{trimEnd};
 ghost use Rattle.text.specs.Lines.{size, indent, leading};
 ghost use Rattle.text.specs.Parts.{linesIn, lineIn};
-ghost use Rattle.rules.specs.LineTests.{isMarked};
+ghost use Rattle.rules.specs.LineTests.{isMarked, lineTest};
 ghost use Rattle.rules.specs.Elements.{table, runOf};
 ghost use Rattle.rules.specs.Spans.{innerOf, ownLines};
-ghost use Rattle.rules.specs.Findings.{LineOf, lineTest, ruleOn};
+ghost use Rattle.rules.specs.Findings.{InScope, ruleOn};
 use crate::kind;
 use crate::rule::Element;
 use crate::rule::Rule;
+use crate::scope::Scope;
 use text::bytes::Class;
 use text::bytes::is_nonblank;
 use text::bytes::run_end;
@@ -84,17 +85,17 @@ pub fn lines_end(text: &[u8], from: usize, to: usize, class: LineClass) -> LineR
 }
 
 // A table: row lines, and the formula lines right after them.  [01 rule 5]
-pub fn try_table(text: &[u8], line: LineSpan, to: usize) -> Rule
-    requires { ⌜ LineOf (now text) line to ⌝ }
-    ensures { λ r. ⌜ r ≡ ruleOn table (now (text .entry)) line to ⌝ }
+pub fn try_table(text: &[u8], line: LineSpan, scope: Scope) -> Rule
+    requires { ⌜ InScope (now text) line scope ⌝ }
+    ensures { λ r. ⌜ r ≡ ruleOn table (now (text .entry)) line scope ⌝ }
 {
-    if !starts_line(text, line.from, to, LineClass::Row) {
+    if !starts_line(text, line.from, scope.end, LineClass::Row) {
         return Rule::Fails;
     }
-    let rows = lines_end(text, line.end, to, LineClass::Row);
+    let rows = lines_end(text, line.end, scope.end, LineClass::Row);
     Rule::Holds(Element {
         kind: kind::TABLE,
-        end: lines_end(text, rows.end, to, LineClass::Formula).end,
+        end: lines_end(text, rows.end, scope.end, LineClass::Formula).end,
         from: line.start,
         to: rows.end,
         detail: 0,
@@ -103,14 +104,14 @@ pub fn try_table(text: &[u8], line: LineSpan, to: usize) -> Rule
 }
 
 // A comment or a fixed-width area: the run of lines of a class, as an element of a kind.  [01 rules 6 and 7]
-pub fn try_run(text: &[u8], line: LineSpan, to: usize, class: LineClass, kind: usize) -> Rule
-    requires { ⌜ LineOf (now text) line to × (innerOf kind ≡ ownLines) ⌝ }
-    ensures { λ r. ⌜ r ≡ ruleOn (runOf (lineTest class) kind) (now (text .entry)) line to ⌝ }
+pub fn try_run(text: &[u8], line: LineSpan, scope: Scope, class: LineClass, kind: usize) -> Rule
+    requires { ⌜ InScope (now text) line scope × (innerOf kind ≡ ownLines) ⌝ }
+    ensures { λ r. ⌜ r ≡ ruleOn (runOf (lineTest class) kind) (now (text .entry)) line scope ⌝ }
 {
-    if !starts_line(text, line.from, to, class) {
+    if !starts_line(text, line.from, scope.end, class) {
         return Rule::Fails;
     }
-    let end = lines_end(text, line.end, to, class).end;
+    let end = lines_end(text, line.end, scope.end, class).end;
     Rule::Holds(Element {
         kind: kind,
         end: end,

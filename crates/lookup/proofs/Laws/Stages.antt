@@ -19,7 +19,7 @@ use Rattle.text.proofs.Laws.Lines.{some-lines, size-headLine, size-take-mono, b
 use Rattle.text.proofs.Laws.LinesIn.{linesIn-nil, linesIn-drop, lineIn-to, size-linesIn, within-linesIn, nextLine-from, nextLine-to}
 use Rattle.rules.specs.Headings.{isHeading}
 use Rattle.rules.specs.Kind
-use Rattle.rules.specs.Elements.{Found, found, mapSome, propertiesBefore, propertyDrawer}
+use Rattle.rules.specs.Elements.{Found, found, propertiesBefore, propertyDrawer}
 use Rattle.rules.specs.LineTests.{isPlanning, isPropertiesLine, propertyName}
 use Rattle.rules.specs.declared.place.Place.{Place}
 use Rattle.rules.specs.declared.place.Place.the-variants.{AfterHeading, AfterPlanning}
@@ -120,14 +120,14 @@ module _ (s : List ℕ) (p : ℕ) where
 -- it has none, or one with n node properties
 pub propertyDrawer-cases {χ} : {A : Type χ} (pl : Place) (ls : List Line) → (propertyDrawer pl ls ≡ none → A)
     → ((n : ℕ) → propertyDrawer pl ls ≡ some (found Kind.propertyDrawer (n + 2) 0) → A) → A
-unfolding propertyDrawer mapSome
+unfolding propertyDrawer
 propertyDrawer-cases pl ls f g = cases (allowsProperties pl && isPropertiesLine (headLine ls))
     (λ h. options (propertiesBefore (tailLines ls))
-    (λ i. f (rw (h, propertyDrawer) (rw (i, mapSome)))) (λ n i. g n (rw (h, propertyDrawer) (rw (i, mapSome)))))
+    (λ i. f (rw (h, propertyDrawer) (rw i))) (λ n i. g n (rw (h, propertyDrawer) (rw i))))
     (λ h. f (rw (h, propertyDrawer)))
 
 propertyDrawer-nil : (pl : Place) → propertyDrawer pl [] ≡ none
-unfolding propertyDrawer propertiesBefore tailLines mapSome
+unfolding propertyDrawer propertiesBefore tailLines
 propertyDrawer-nil pl =
     cases (allowsProperties pl && isPropertiesLine (headLine [])) (λ h. rw (h, propertyDrawer)) (λ h. rw (h, propertyDrawer))
 

@@ -18,7 +18,8 @@ use Rattle.rules.specs.Elements.{Found, rowLines, elementAt}
 use Rattle.rules.specs.Kind
 use Rattle.rules.specs.Places.{placeAt}
 use Rattle.rules.specs.Spans.{linesBetween, innerOf, innerFrom, innerTo}
-use Rattle.rules.proofs.Laws.Elements.{Fine, fine-element}
+use Rattle.rules.proofs.Laws.LineRules.{Fine}
+use Rattle.rules.proofs.Laws.Elements.{fine-element}
 use Rattle.table.specs.Makers.{elementRecord, lineRecord, childRecord}
 use Rattle.table.specs.Proper.{IsElementRecord, IsLineRecord}
 use Rattle.table.specs.Reading.{contents, section}

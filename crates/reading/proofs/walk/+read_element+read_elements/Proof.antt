@@ -5,12 +5,14 @@
 use mathlib.Core.Path.{_≡_, refl, sym, ap, _∙_}
 use mathlib.Core.Logic.{inl, inr}
 use mathlib.Core.Bool.{true≢false}
+use mathlib.Core.List.{List}
 use Prim.Native.Nat.{ℕ, _+_, _-_, _*_, _≤_, _<_}
 use native.Mathlib.Omega.{arith}
 use lib.ListN.{length}
 use lib.Dec.{eqb}
 use Rattle.text.proofs.Laws.LinesIn.{firstLine-from, firstLine-to}
 use Rattle.rules.specs.Kind
+use Rattle.reading.specs.declared.walk.Step.{Step}
 use Rattle.reading.specs.Walk.{state, absorbed, entriesFrom, elementsTo, linesTo, Range, StepAt}
 use Rattle.table.proofs.Basics.{on}
 use Rattle.reading.proofs.Laws.Holders.{depthIn-more, depthIn-same, counts-elements, isHolder-no, lines-kind}
@@ -37,7 +39,7 @@ abbrev μ-read-element : Measures 2 read-element-kinds.ps ℕ
 μ-read-element κs a = 2 * (a .1 .1 .0 - a .1 .0)
 
 abbrev μ-read-elements : Measures 2 read-elements-kinds.ps ℕ
-μ-read-elements κs a = 2 * (a .1 .1 .0 - a .1 .0) + 1
+μ-read-elements κs a = 2 * (a .1 .1 .0 .end - a .1 .0) + 1
 
 abbrev read-element-at : ℕ → In 2 read-element-kinds.ps
 read-element-at t =
@@ -144,7 +146,10 @@ element-elements-requires t c κs =
     let first = c .before .first-line2 .ensures in
     let from = firstLine-from (start .args .text .now) (start .args .e .from) (start .args .e .to) (i .order) (omega arith) in
     let shallow = at-emit .emit .ensures .1 .1 (at-if .before .before .before .if1 .left) in
-    (omega arith, (rw first (inside .2), rw first (i .place counts), omega arith, omega arith, omega arith))
+    (
+      omega arith,
+      (record { range = rw first (inside .2); place = rw first (i .place counts); ends = λ e. absurd (true≢false e) }, omega arith, omega arith, omega arith),
+    )
 
 element-returns-4 : (t : ℕ) → read-element-lts.Need-returns-4 (element-calls t) (read-element-at t) read-element.Post
 element-returns-4 t c =
@@ -166,15 +171,18 @@ element-returns-4 t c =
 
 -- ---- a run of elements
 
+step-rest : (s : List ℕ) (p e : ℕ) (r : Step) → StepAt s p e r → Range s (r .end) e
+step-rest s p e r h = rw (h .end) at (h .rest .range)
+
 abbrev Inv-loop : read-elements-lts.InvT-loop
-Inv-loop text from to depth parent table₀ at₀ kept₀ step₀ table at kept step =
+Inv-loop text from depth parent table₀ to at₀ kept₀ step₀ table at kept step =
     (from ≤ at) × (at < to) × Range text at to × StepAt text at to step
     × (kept .count + 2 * from ≤ kept₀ .count + 2 * at) × (length table ≡ length table₀)
     × (absorbed (state table kept) (entriesFrom text (elementsTo to) parent depth at (kept .count))
     ≡ absorbed (state table₀ kept₀) (entriesFrom text (elementsTo to) parent depth from (kept₀ .count)))
 
 abbrev μ-loop : read-elements-lts.MeasureT-loop
-μ-loop text from to depth parent table₀ at₀ kept₀ step₀ table at kept step = to - at
+μ-loop text from depth parent table₀ to at₀ kept₀ step₀ table at kept step = to - at
 
 none : (t : ℕ) → read-elements-lts.Need-returns (elements-calls t) (read-elements-at t) read-elements.Post Inv-loop μ-loop
 unfolding absorbed
@@ -182,29 +190,28 @@ none t c = (sym (ap (absorbed (state _ _)) (entriesFrom-none _ _ _ _ _ _ (c .if1
 
 first-requires : (t : ℕ) → read-elements-lts.Need-next-element-requires (elements-calls t) (read-elements-at t) read-elements.Post Inv-loop μ-loop
 first-requires t c κs =
-    let p = c .before .before .before .pre .1 in
-    (p .0, c .if1 .left, p .1 (c .if1 .left), λ e. absurd (true≢false e))
+    (c .before .before .before .pre .1 .0, c .if1 .left)
 
 holds : (t : ℕ) → read-elements-lts.Need-loop-holds (elements-calls t) (read-elements-at t) read-elements.Post Inv-loop μ-loop
 holds t c =
     let p = c .before .before .before .before .pre .1 in
-    (omega arith, c .before .if1 .left, p .0, c .next-element .ensures, omega arith, refl, refl)
+    (omega arith, c .before .if1 .left, p .0 .range, c .next-element .ensures, omega arith, refl, refl)
 
 read-element-requires : (t : ℕ) → read-elements-lts.Need-read-element-requires (elements-calls t) (read-elements-at t) read-elements.Post Inv-loop μ-loop
 read-element-requires t c κs =
     let loop = c .before .loop in
     let pre = c .before .before .before .before .before .before .pre in
     let lies = loop .inv .3 .lies in
-    let rest = loop .inv .3 .rest in
+    let rest = step-rest _ _ _ _ (loop .inv .3) in
     let count = loop .inv .4 in
-    (omega arith, (lies, pre .1 .2, pre .1 .3, omega arith))
+    (omega arith, (lies, pre .1 .1, pre .1 .2, omega arith))
 
 last : (t : ℕ) → read-elements-lts.Need-returns-2 (elements-calls t) (read-elements-at t) read-elements.Post Inv-loop μ-loop
 unfolding absorbed
 last t c =
     let at-element = c .before .before .before .before in
     let inv = at-element .before .before .loop .inv in
-    let rest = inv .3 .rest in (
+    let rest = step-rest _ _ _ _ (inv .3) in (
       sym (ap (absorbed (state _ _)) (entriesFrom-none _ _ _ _ _ _ (c .if2 .taken)))
           ∙ element-turn _ _ _ (inv .2) (inv .1) _ (inv .3 .here) _ (inv .3 .next) _ _ _ _ (at-element .read-element .ensures .0) ∙ inv .6,
       omega arith,
@@ -213,7 +220,7 @@ last t c =
 next-requires : (t : ℕ) → read-elements-lts.Need-next-element-requires-2 (elements-calls t) (read-elements-at t) read-elements.Post Inv-loop μ-loop
 next-requires t c κs =
     let step = c .before .before .before .before .before .before .loop .inv .3 in
-    (step .rest, c .if2 .left, step .place, step .ends)
+    (step .rest, rw (step .end) (c .if2 .left))
 
 less : (t : ℕ) → read-elements-lts.Need-loop-less (elements-calls t) (read-elements-at t) read-elements.Post Inv-loop μ-loop
 less t c =
@@ -228,8 +235,8 @@ again t c =
     let lies = inv .3 .lies in (
       omega arith,
       c .before .if2 .left,
-      inv .3 .rest,
-      c .next-element2 .ensures,
+      step-rest _ _ _ _ (inv .3),
+      rw (inv .3 .end) at (c .next-element2 .ensures),
       omega arith,
       at-element .read-element .kept .1 .1 .1 .1 .1 .1 .0 ∙ inv .5,
       element-turn _ _ _ (inv .2) (inv .1) _ (inv .3 .here) _ (inv .3 .next) _ _ _ _ (at-element .read-element .ensures .0) ∙ inv .6,
@@ -250,7 +257,7 @@ pub +read-element+read-elements-spec : {M : Type 1} → statement M
     (element-returns-3 t)
     (λ c κs. omega arith)
     (element-elements-requires t)
-    (λ c. c .before .before .read-elements .kept .1 .1 .1 .1 .1 .1 .0 ∙ c .before .before .before .before .before .before .before .before .before .before .before .emit .kept .0)
+    (λ c. c .before .before .read-elements .kept .1 .1 .1 .1 .1 .0 ∙ c .before .before .before .before .before .before .before .before .before .before .before .emit .kept .0)
     (element-returns-4 t))
     λ t. read-elements-lts.spec (elements-calls t) (read-elements-at t) read-elements.Post Inv-loop μ-loop
     (none t)

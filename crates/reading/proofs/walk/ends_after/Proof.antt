@@ -9,7 +9,7 @@ use Rattle.reading.proofs.walk.ends_after.Tie as tie
 returns : tie.Need-returns
 returns c h =
     let start = c .before .before in
-    rw (lineOf-end _ _ _ (start .pre .0)) (noEnd-line _ _ _ (start .pre .1 h))
+    rw (lineOf-end _ _ _ (start .pre .line)) (noEnd-line _ _ _ (start .pre .ends h))
 
 pub ends-after-spec : {M : Type 1} → statement M
 ends-after-spec = tie.close (tie.spec returns (λ c κs. search needs) (λ c. search needs))

@@ -1,49 +1,52 @@
 -- `reading::walk::next_element` meets its contract: the element at the line is the one that the rules give, it lies in the range, and what is after it
 -- is a range too. From Ranges.
 -- Assumes nothing.
-use mathlib.Core.Path.{_≡_, sym, _∙_}
+use mathlib.Core.Path.{_≡_, refl, sym, _∙_}
 use borrow.Author.Needs.{needs}
+use Rattle.rules.specs.Findings.{InScope}
 use Rattle.rules.proofs.Laws.LineOf.{lineOf, lineSpan-start, lineSpan-end}
 use Rattle.reading.proofs.Laws.Ranges.{firstElement, element-is, element-end, element-in, range-rest, range-place, no-end-rest}
 use Rattle.reading.proofs.walk.next_element.Statement.{statement}
 use Rattle.reading.proofs.walk.next_element.Tie as tie
 
-here : (c : tie.After-element-at) → let a = c .before .before .before .args in c .element-at .result ≡ firstElement (a .text .now) (a .at) (a .to)
-here c = element-is _ _ _ _ _ _ (c .before .line-at .ensures) (c .before .before .before .pre .2) (c .element-at .ensures)
+here : (c : tie.After-element-at) →
+    let a = c .before .before .before .args in
+    c .element-at .result ≡ firstElement (a .text .now) (a .at) (a .scope .end)
+here c =
+    let pre = c .before .before .before .pre in
+    element-is _ _ _ _ _ _ (c .before .line-at .ensures) (pre .0 .place (pre .1)) (c .element-at .ensures)
 
-element-at-requires : tie.Need-element-at-requires
-element-at-requires c κs =
+-- the line at `at` is one of the scope
+line : (c : tie.After-line-at) → let a = c .before .before .args in InScope (a .text .now) (c .line-at .result) (a .scope)
+line c =
     let pre = c .before .before .pre in
-    let line = c .line-at .ensures in
-    (lineOf _ _ _ _ (pre .1) (pre .0 .text) line, λ e. rw (lineSpan-start _ _ _ _ line) (pre .3 e))
+    let is = c .line-at .ensures in
+    record { line = lineOf _ _ _ _ (pre .1) (pre .0 .range .text) is; ends = λ e. rw (lineSpan-start _ _ _ _ is) (pre .0 .ends e) }
 
 first-line-requires : tie.Need-first-line-requires
 first-line-requires c κs =
     let pre = c .before .before .before .pre in
-    (element-end _ _ _ (pre .0) (pre .1) _ (here c) .1, pre .0 .text)
-
-ends-after-requires : tie.Need-ends-after-requires
-ends-after-requires c κs =
-    let at-line = c .before .before .before .before in
-    let pre = at-line .before .before .pre in
-    let line = at-line .line-at .ensures in
-    (lineOf _ _ _ _ (pre .1) (pre .0 .text) line, λ e. rw (lineSpan-start _ _ _ _ line) (pre .3 e))
+    (element-end _ _ _ (pre .0 .range) (pre .1) _ (here c) .1, pre .0 .range .text)
 
 returns : tie.Need-returns
 returns c =
     let at-first = c .before .before .before in
     let at-element = at-first .before in
     let at-line = at-element .before in
-    let (range, some, place, ends) = at-line .before .before .pre in
+    let (known, some) = at-line .before .before .pre in
+    let range = known .range in
     let is = here at-element in
     let next = at-first .first-line .ensures in
     record {
       here = is;
       next = next;
       lies = element-in _ _ _ range some _ is _ next;
-      rest = range-rest _ _ _ range some _ is _ next;
-      place = c .before .next-place .ensures ∙ rw place (sym (range-place _ _ _ range some _ is _ next));
-      ends = λ e. no-end-rest _ _ _ range some _ is _ next (rw (lineSpan-end _ _ _ _ (at-line .line-at .ensures)) at (c .ends-after .ensures e));
+      end = refl;
+      rest = record {
+        range = range-rest _ _ _ range some _ is _ next;
+        place = λ h. c .before .next-place .ensures ∙ rw (known .place some) (sym (range-place _ _ _ range some _ is _ next));
+        ends = λ e. no-end-rest _ _ _ range some _ is _ next (rw (lineSpan-end _ _ _ _ (at-line .line-at .ensures)) at (c .ends-after .ensures e));
+      };
     }
 
 pub next-element-spec : {M : Type 1} → statement M
@@ -51,8 +54,8 @@ next-element-spec =
     tie.close
     (tie.spec
     (λ c κs. search needs)
-    element-at-requires
+    (λ c κs. line c)
     first-line-requires
     (λ c κs. search needs)
-    ends-after-requires
+    (λ c κs. line (c .before .before .before .before))
     returns)

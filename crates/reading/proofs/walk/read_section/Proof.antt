@@ -2,6 +2,7 @@
 -- elements, from its first line on and at the place that the lines before it give.
 -- Assumes nothing.
 use mathlib.Core.Path.{_≡_, _∙_}
+use mathlib.Core.Bool.{true≢false}
 use Prim.Native.Nat.{_≤_}
 use native.Mathlib.Omega.{arith}
 use lib.ListN.{length}
@@ -52,7 +53,7 @@ read-elements-requires c κs =
     let at-place = c .before .before .before .before .before in
     let at-first = at-place .before .before in
     let bounds = order at-first in
-    (range at-first, λ h. placed at-place, omega arith, omega arith, omega arith)
+    (record { range = range at-first; place = λ h. placed at-place; ends = λ e. absurd (true≢false e) }, omega arith, omega arith, omega arith)
 
 returns-2 : tie.Need-returns-2
 returns-2 c =

@@ -19,11 +19,11 @@ use Rattle.rules.proofs.block.try_block.Statement.{statement}
 use Rattle.rules.proofs.block.try_block.Tie as tie
 
 begins-with-requires : tie.Need-begins-with-requires
-begins-with-requires c κs = let o = lineOf-order _ _ _ (c .before .before .pre) in (o .1, omega arith)
+begins-with-requires c κs = let o = lineOf-order _ _ _ (c .before .before .pre .line) in (o .1, omega arith)
 
 returns : tie.Need-returns
 unfolding word
-returns c = block-no _ _ _ (c .before .before .before .before .pre) (sym (c .before .begins-with .ensures) ∙ not-true _ (c .if1 .taken))
+returns c = block-no _ _ _ (c .before .before .before .before .pre .line) (sym (c .before .begins-with .ensures) ∙ not-true _ (c .if1 .taken))
 
 -- the body begins so
 begin : (c : tie.Else1) → let start = c .before .before .before .before in
@@ -33,20 +33,20 @@ begin c = sym (c .before .begins-with .ensures) ∙ not-false _ (c .if1 .left)
 
 name : (c : tie.Else1) → let args = c .before .before .before .before .args in
     (args .line .from + 8 ≤ args .line .to) × (args .line .to ≤ length (args .text .now))
-name c = begin-order _ _ _ (c .before .before .before .before .pre) (begin c)
+name c = begin-order _ _ _ (c .before .before .before .before .pre .line) (begin c)
 
 returns-2 : tie.Need-returns-2
 returns-2 c =
     let at-name = c .before in
     let at-begin = at-name .before .before in
-    block-unnamed _ _ _ (at-begin .before .before .before .before .pre) (begin at-begin) _ (at-name .word-end .ensures) (c .if2 .taken)
+    block-unnamed _ _ _ (at-begin .before .before .before .before .pre .line) (begin at-begin) _ (at-name .word-end .ensures) (c .if2 .taken)
 
 -- the name's end
 ends : (c : tie.After-word-end) → let args = c .before .before .before .before .before .before .args in
     (args .line .from + 8 ≤ c .word-end .result) × (c .word-end .result ≤ args .line .to) × (args .line .to ≤ length (args .text .now))
 ends c =
     let at-begin = c .before .before in
-    name-order _ _ _ (at-begin .before .before .before .before .pre) (begin at-begin) _ (c .word-end .ensures)
+    name-order _ _ _ (at-begin .before .before .before .before .pre .line) (begin at-begin) _ (c .word-end .ensures)
 
 find-closer-requires : tie.Need-find-closer-requires
 unfolding word
@@ -54,15 +54,15 @@ find-closer-requires c κs =
     let at-name = c .before .before .before in
     let at-begin = at-name .before .before in
     let start = at-begin .before .before .before .before in
-    let o = lineOf-order _ _ _ (start .pre) in
-    (o .4, o .5, rw (part-slice _ _ _ (ends at-name .0)) (closer-bytes _ _ _ (start .pre) (begin at-begin) _ (at-name .word-end .ensures)))
+    let o = lineOf-order _ _ _ (start .pre .line) in
+    (o .4, o .5, rw (part-slice _ _ _ (ends at-name .0)) (closer-bytes _ _ _ (start .pre .line) (begin at-begin) _ (at-name .word-end .ensures)))
 
 -- the closer of the name
 closer : (c : tie.After-find-closer) →
     let at-name = c .before .before .before .before in
     let args = at-name .before .before .before .before .before .before .args in
     let s = args .text .now in
-    let ls = linesIn s (args .line .end) (args .to) in
+    let ls = linesIn s (args .line .end) (args .scope .end) in
     c .find-closer .result ≡ closerAt (args .line .end) ls (linesBefore (word "#+end_" ++ part s (args .line .from + 8) (at-name .word-end .result)) ls)
 unfolding word
 closer c = rw (part-slice _ _ _ (ends (c .before .before .before .before) .0)) at (c .find-closer .ensures)
@@ -73,7 +73,7 @@ returns-3 c =
     let at-test = at-closer .before .before .before in
     let at-name = at-test .before in
     let at-begin = at-name .before .before in
-    block-open _ _ _ (at-begin .before .before .before .before .pre) (begin at-begin) _ (at-name .word-end .ensures) (at-test .if2 .left) _
+    block-open _ _ _ (at-begin .before .before .before .before .pre .line) (begin at-begin) _ (at-name .word-end .ensures) (at-test .if2 .left) _
     (closer at-closer) (c .enum-told .given .1)
 
 returns-4 : tie.Need-returns-4
@@ -84,7 +84,7 @@ returns-4 c =
     let at-test = at-closer .before .before .before in
     let at-name = at-test .before in
     let at-begin = at-name .before .before in
-    block-verbatim _ _ _ (at-begin .before .before .before .before .pre) (begin at-begin) _ (at-name .word-end .ensures) (at-test .if2 .left) _
+    block-verbatim _ _ _ (at-begin .before .before .before .before .pre .line) (begin at-begin) _ (at-name .word-end .ensures) (at-test .if2 .left) _
     (sym (at-close .close .given .1) ∙ closer at-closer) _ (at-detail .verbatim-detail .ensures) (c .if3 .taken)
 
 returns-5 : tie.Need-returns-5
@@ -95,7 +95,7 @@ returns-5 c =
     let at-test = at-closer .before .before .before in
     let at-name = at-test .before in
     let at-begin = at-name .before .before in
-    block-greater _ _ _ (at-begin .before .before .before .before .pre) (begin at-begin) _ (at-name .word-end .ensures) (at-test .if2 .left) _
+    block-greater _ _ _ (at-begin .before .before .before .before .pre .line) (begin at-begin) _ (at-name .word-end .ensures) (at-test .if2 .left) _
     (sym (at-close .close .given .1) ∙ closer at-closer) _ (at-detail .verbatim-detail .ensures) (c .before .if3 .left) _ (c .greater-detail .ensures)
 
 pub try-block-spec : {M : Type 1} → statement M

@@ -11,13 +11,13 @@ use Rattle.rules.proofs.closer.may_end.Statement.{statement}
 use Rattle.rules.proofs.closer.may_end.Tie as tie
 
 returns : tie.Need-returns
-returns c z = let start = c .before .before in noEnd-next _ _ _ (start .pre .0) (start .pre .1 (not-true _ (c .if1 .taken)))
+returns c z = let start = c .before .before .before in noEnd-next _ _ _ (start .pre .line) (start .pre .ends (not-true _ (c .if1 .taken)))
 
 shared-slice-read-if3 : tie.Need-shared-slice-read-if3
-shared-slice-read-if3 c = let o = lineOf-order _ _ _ (c .before .before .before .before .before .pre .0) in omega arith
+shared-slice-read-if3 c = let o = lineOf-order _ _ _ (c .before .before .before .before .before .before .pre .line) in omega arith
 
 find-end-requires : tie.Need-find-end-requires
-find-end-requires c κs = let o = lineOf-order _ _ _ (c .before .before .before .before .before .before .pre .0) in (o .4, o .5)
+find-end-requires c κs = let o = lineOf-order _ _ _ (c .before .before .before .before .before .before .before .pre .line) in (o .4, o .5)
 
 returns-4 : tie.Need-returns-4
 returns-4 c z = endLine-none _ _ _ (sym (c .enum-told2 .given .1) ∙ c .before .before .find-end .ensures)

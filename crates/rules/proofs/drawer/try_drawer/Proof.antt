@@ -4,32 +4,32 @@ use mathlib.Core.Path.{sym, _∙_}
 use borrow.Author.Needs.{needs}
 use borrow.Author.Tests.{not-true, not-false}
 use Rattle.rules.proofs.Laws.LineOf.{lineOf-order}
-use Rattle.rules.proofs.Laws.Drawers.{drawer-no, drawer-closer, drawer-none}
+use Rattle.rules.proofs.Laws.Drawers.{noEnd-next, drawer-no, drawer-closer, drawer-none}
 use Rattle.rules.proofs.drawer.try_drawer.Statement.{statement}
 use Rattle.rules.proofs.drawer.try_drawer.Tie as tie
 
 returns : tie.Need-returns
-returns c = let start = c .before .before in drawer-none _ _ _ (start .pre .0) (start .pre .1 (not-true _ (c .if1 .taken)))
+returns c = let start = c .before .before .before in let pre = start .pre in drawer-none _ _ _ (pre .line) (noEnd-next _ _ _ (pre .line) (pre .ends (not-true _ (c .if1 .taken))))
 
 returns-2 : tie.Need-returns-2
 returns-2 c =
-    drawer-no _ _ _ (c .before .before .before .before .pre .0) (sym (c .before .is-drawer-line .ensures) ∙ not-true _ (c .if2 .taken))
+    drawer-no _ _ _ (c .before .before .before .before .before .pre .line) (sym (c .before .is-drawer-line .ensures) ∙ not-true _ (c .if2 .taken))
 
 find-end-requires : tie.Need-find-end-requires
-find-end-requires c κs = let o = lineOf-order _ _ _ (c .before .before .before .before .pre .0) in (o .4, o .5)
+find-end-requires c κs = let o = lineOf-order _ _ _ (c .before .before .before .before .before .pre .line) in (o .4, o .5)
 
 returns-3 : tie.Need-returns-3
 returns-3 c =
     let at-closer = c .before .before in
     let at-line = at-closer .before in
-    drawer-closer _ _ _ (at-line .before .before .before .before .pre .0) (sym (at-line .before .is-drawer-line .ensures) ∙ not-false _ (at-line .if2 .left)) _
+    drawer-closer _ _ _ (at-line .before .before .before .before .before .pre .line) (sym (at-line .before .is-drawer-line .ensures) ∙ not-false _ (at-line .if2 .left)) _
     (sym (c .enum-told .given .1) ∙ at-closer .find-end .ensures)
 
 returns-4 : tie.Need-returns-4
 returns-4 c =
     let at-closer = c .before .before .before in
     let at-line = at-closer .before in
-    drawer-closer _ _ _ (at-line .before .before .before .before .pre .0) (sym (at-line .before .is-drawer-line .ensures) ∙ not-false _ (at-line .if2 .left)) _
+    drawer-closer _ _ _ (at-line .before .before .before .before .before .pre .line) (sym (at-line .before .is-drawer-line .ensures) ∙ not-false _ (at-line .if2 .left)) _
     (sym (c .before .close .given .1) ∙ at-closer .find-end .ensures)
 
 pub try-drawer-spec : {M : Type 1} → statement M

@@ -16,42 +16,42 @@ use Rattle.rules.proofs.drawer.try_property_drawer.Statement.{statement
 use Rattle.rules.proofs.drawer.try_property_drawer.Tie as tie
 
 returns : tie.Need-returns
-returns c = propertyDrawer-no _ _ _ (c .before .before .before .pre) _ (rw (sym (c .before .allows-properties .ensures) ∙ not-true _ (c .if1 .taken)))
+returns c = propertyDrawer-no _ _ _ (c .before .before .before .pre .line) _ (rw (sym (c .before .allows-properties .ensures) ∙ not-true _ (c .if1 .taken)))
 
 is-word-requires : tie.Need-is-word-requires
-is-word-requires c κs = let o = lineOf-order _ _ _ (c .before .before .before .before .pre) in (o .1, omega arith)
+is-word-requires c κs = let o = lineOf-order _ _ _ (c .before .before .before .before .pre .line) in (o .1, omega arith)
 
 -- the place allows it, so the line decides
 line : (c : tie.After-is-word) → let start = c .before .before .before .before .before in
-    (allowsProperties (start .args .place) && isPropertiesLine (lineIn (start .args .text .now) (start .args .line .start) (start .args .to)))
+    (allowsProperties (start .args .scope .place) && isPropertiesLine (lineIn (start .args .text .now) (start .args .line .start) (start .args .scope .end)))
     ≡ c .is-word .result
 unfolding word
 line c =
     let at-place = c .before .before in
     rw (
       sym (at-place .before .allows-properties .ensures) ∙ not-false _ (at-place .if1 .left),
-      isPropertiesLine-part _ _ _ (at-place .before .before .before .pre),
+      isPropertiesLine-part _ _ _ (at-place .before .before .before .pre .line),
       c .is-word .ensures,
     )
 
 returns-2 : tie.Need-returns-2
-returns-2 c = propertyDrawer-no _ _ _ (c .before .before .before .before .before .before .pre) _ (line (c .before) ∙ not-true _ (c .if2 .taken))
+returns-2 c = propertyDrawer-no _ _ _ (c .before .before .before .before .before .before .pre .line) _ (line (c .before) ∙ not-true _ (c .if2 .taken))
 
 find-properties-end-requires : tie.Need-find-properties-end-requires
-find-properties-end-requires c κs = let o = lineOf-order _ _ _ (c .before .before .before .before .before .before .pre) in (o .4, o .5)
+find-properties-end-requires c κs = let o = lineOf-order _ _ _ (c .before .before .before .before .before .before .pre .line) in (o .4, o .5)
 
 returns-3 : tie.Need-returns-3
 returns-3 c =
     let at-closer = c .before .before in
     let at-line = at-closer .before in
-    propertyDrawer-closer _ _ _ (at-line .before .before .before .before .before .before .pre) _ (line (at-line .before) ∙ not-false _ (at-line .if2 .left)) _
+    propertyDrawer-closer _ _ _ (at-line .before .before .before .before .before .before .pre .line) _ (line (at-line .before) ∙ not-false _ (at-line .if2 .left)) _
     (sym (c .enum-told .given .1) ∙ at-closer .find-properties-end .ensures)
 
 returns-4 : tie.Need-returns-4
 returns-4 c =
     let at-closer = c .before .before .before in
     let at-line = at-closer .before in
-    propertyDrawer-closer _ _ _ (at-line .before .before .before .before .before .before .pre) _ (line (at-line .before) ∙ not-false _ (at-line .if2 .left)) _
+    propertyDrawer-closer _ _ _ (at-line .before .before .before .before .before .before .pre .line) _ (line (at-line .before) ∙ not-false _ (at-line .if2 .left)) _
     (sym (c .before .close .given .1) ∙ at-closer .find-properties-end .ensures)
 
 pub try-property-drawer-spec : {M : Type 1} → statement M

@@ -12,7 +12,6 @@ use Rattle.text.specs.Parts.{lineIn}
 use Rattle.text.proofs.Laws.LinesIn.{lineIn-some, lineIn-to}
 use Rattle.rules.specs.Findings.{LineOf, NoEnd}
 use Rattle.rules.proofs.Laws.LineOf.{indent-run, after-end, lineOf, lineSpan-start, lineSpan-next}
-use Rattle.rules.proofs.Laws.Drawers.{noEnd-next}
 use Rattle.rules.proofs.Laws.NoEnds.{noEnd-line}
 use Rattle.rules.proofs.Laws.Paragraphs.{paragraphEnd, paragraph-none, paragraph-short, paragraph-newline, paragraph-plain}
 use Rattle.rules.proofs.Laws.Paragraphs.{paragraph-blank, paragraph-stop, paragraph-pass}
@@ -20,11 +19,11 @@ use Rattle.rules.proofs.element.paragraph_end.Statement.{statement}
 use Rattle.rules.proofs.element.paragraph_end.Tie as tie
 
 abbrev Inv-loop : tie.InvT-loop
-Inv-loop text from to ends at₀ still₀ at still =
+Inv-loop text from to at₀ still₀ at still =
     (at ≤ to) × (to ≤ length text) × (still ≡ false → NoEnd text at to) × (paragraphEnd text at to ≡ paragraphEnd text from to)
 
 abbrev μ-loop : tie.MeasureT-loop
-μ-loop text from to ends at₀ still₀ at still = to - at
+μ-loop text from to at₀ still₀ at still = to - at
 
 loop-holds : tie.Need-loop-holds Inv-loop μ-loop
 loop-holds c = let start = c .before in (start .pre .0, start .pre .1, start .pre .2, refl)
@@ -52,7 +51,7 @@ in-loop c = c .before .before .before .before .before .before .before
 
 -- the line at `at`
 line : (c : tie.After-line-at Inv-loop μ-loop) → let args = in-loop c .before .before .before .args in
-    LineOf (args .text .now) (c .line-at .result) (args .to)
+    LineOf (args .text .now) (c .line-at .result) (args .scope .end)
 line c = let at-test = in-loop c in lineOf _ _ _ _ (at-test .loop-test .taken) (at-test .before .loop .inv .1) (c .line-at .ensures)
 
 -- it starts there
@@ -63,12 +62,12 @@ here c = lineSpan-start _ _ _ _ (c .line-at .ensures)
 none : (c : tie.After-line-at Inv-loop μ-loop) →
     let at-loop = c .before .before .before .before .before .before .before .before in
     let args = at-loop .before .before .args in
-    at-loop .loop .still ≡ false → NoEnd (args .text .now) (c .line-at .result .start) (args .to)
+    at-loop .loop .still ≡ false → NoEnd (args .text .now) (c .line-at .result .start) (args .scope .end)
 none c z = rw (here c) (in-loop c .before .loop .inv .2 z)
 
 next : (c : tie.After-line-at Inv-loop μ-loop) →
     let at-loop = in-loop c .before in
-    (at-loop .loop .at < c .line-at .result .end) × (c .line-at .result .end ≤ at-loop .before .before .args .to)
+    (at-loop .loop .at < c .line-at .result .end) × (c .line-at .result .end ≤ at-loop .before .before .args .scope .end)
 next c = let at-test = in-loop c in lineSpan-next _ _ _ _ (c .line-at .ensures) (at-test .loop-test .taken) (at-test .before .loop .inv .1)
 
 returns-3 : tie.Need-returns-3 Inv-loop μ-loop
@@ -77,7 +76,7 @@ returns-3 c =
     sym (rw (here at-line) at (paragraph-blank _ _ _ (line at-line) (c .if4 .taken))) ∙ in-loop at-line .before .loop .inv .3
 
 find-rule-requires : tie.Need-find-rule-requires Inv-loop μ-loop
-find-rule-requires c κs = let at-line = c .before .before in (line at-line, λ z. noEnd-next _ _ _ (line at-line) (none at-line z))
+find-rule-requires c κs = let at-line = c .before .before in record { line = line at-line; ends = none at-line }
 
 returns-4 : tie.Need-returns-4 Inv-loop μ-loop
 returns-4 c =
@@ -87,7 +86,7 @@ returns-4 c =
     ∙ in-loop at-line .before .loop .inv .3
 
 may-end-requires : tie.Need-may-end-requires Inv-loop μ-loop
-may-end-requires c κs = let at-line = c .before .before .before .before .before in (line at-line, none at-line)
+may-end-requires c κs = let at-line = c .before .before .before .before .before in record { line = line at-line; ends = none at-line }
 
 loop-less : tie.Need-loop-less Inv-loop μ-loop
 loop-less c = omega (arith, next (c .before .before .before .before .before .before))
@@ -112,14 +111,14 @@ loop-again c =
 end : (c : tie.After-line-end Inv-loop μ-loop) →
     let at-loop = c .before .before .before .before .before .before .before .before in
     let args = at-loop .before .before .args in
-    c .line-end .result ≡ at-loop .loop .at + length (lineIn (args .text .now) (at-loop .loop .at) (args .to))
+    c .line-end .result ≡ at-loop .loop .at + length (lineIn (args .text .now) (at-loop .loop .at) (args .scope .end))
 end c = c .line-end .ensures ∙ after-end _ _ _ _ (indent-run _ _ _ _ (c .before .before .before .before .before .before .run-end .ensures))
 
 loop-less-2 : tie.Need-loop-less-2 Inv-loop μ-loop
 loop-less-2 c =
     let at-test = c .before .before .before .before .before .before .before in
     let args = at-test .before .before .before .args in
-    omega (arith, end c, lineIn-some (args .text .now) (at-test .before .loop .at) (args .to) (at-test .loop-test .taken) (at-test .before .loop .inv .1))
+    omega (arith, end c, lineIn-some (args .text .now) (at-test .before .loop .at) (args .scope .end) (at-test .loop-test .taken) (at-test .before .loop .inv .1))
 
 loop-again-2 : tie.Need-loop-again-2 Inv-loop μ-loop
 loop-again-2 c =

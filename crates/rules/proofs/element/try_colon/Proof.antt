@@ -2,19 +2,20 @@
 -- Assumes nothing.
 use mathlib.Core.Path.{refl, sym, _∙_}
 use borrow.Author.Needs.{needs}
-use Rattle.rules.specs.Elements.{fixedWidth}
+use Rattle.text.specs.Runs.{word}
+use Rattle.rules.specs.Elements.{fixedWidth, rules3to9, rules1to9}
 use Rattle.rules.specs.Spans.{innerOf}
-use Rattle.rules.specs.Findings.{colonRules}
+use Rattle.rules.specs.Findings.{isIn, wanting}
 use Rattle.rules.proofs.Laws.FirstOf.{firstOf-holds, firstOf-fails, firstOf-last}
 use Rattle.rules.proofs.element.try_colon.Statement.{statement}
 use Rattle.rules.proofs.element.try_colon.Tie as tie
 
 returns : tie.Need-returns
-unfolding colonRules
+unfolding wanting isIn rules1to9 rules3to9 word
 returns c = firstOf-holds _ _ _ _ _ (sym (c .before .e .given .1) ∙ c .before .before .before .try-property-drawer .ensures)
 
 returns-2 : tie.Need-returns-2
-unfolding colonRules
+unfolding wanting isIn rules1to9 rules3to9 word
 returns-2 c =
     let at-second = c .before .before .before in
     let at-first = at-second .before .before .before in
@@ -23,10 +24,10 @@ returns-2 c =
 
 try-run-requires : tie.Need-try-run-requires
 unfolding innerOf
-try-run-requires c κs = (c .before .before .before .before .before .before .before .pre .0, refl)
+try-run-requires c κs = (c .before .before .before .before .before .before .before .pre, refl)
 
 returns-3 : tie.Need-returns-3
-unfolding colonRules fixedWidth
+unfolding wanting isIn rules1to9 rules3to9 word fixedWidth
 returns-3 c =
     let at-second = c .before .before .before in
     let at-first = at-second .before .before .before in

@@ -2,15 +2,16 @@
 -- Assumes nothing.
 use mathlib.Core.Path.{refl, sym, _∙_}
 use borrow.Author.Needs.{needs}
-use Rattle.rules.specs.Elements.{comment}
+use Rattle.text.specs.Runs.{word}
+use Rattle.rules.specs.Elements.{comment, rules3to9, rules1to9}
 use Rattle.rules.specs.Spans.{innerOf}
-use Rattle.rules.specs.Findings.{hashRules}
+use Rattle.rules.specs.Findings.{isIn, wanting}
 use Rattle.rules.proofs.Laws.FirstOf.{firstOf-holds, firstOf-fails, firstOf-last}
 use Rattle.rules.proofs.element.try_hash.Statement.{statement}
 use Rattle.rules.proofs.element.try_hash.Tie as tie
 
 returns : tie.Need-returns
-unfolding hashRules
+unfolding wanting isIn rules1to9 rules3to9 word
 returns c = firstOf-holds _ _ _ _ _ (sym (c .before .e .given .1) ∙ c .before .before .before .try-block .ensures)
 
 try-run-requires : tie.Need-try-run-requires
@@ -18,7 +19,7 @@ unfolding innerOf
 try-run-requires c κs = (c .before .before .before .before .pre, refl)
 
 returns-2 : tie.Need-returns-2
-unfolding hashRules comment
+unfolding wanting isIn rules1to9 rules3to9 word comment
 returns-2 c =
     let at-second = c .before .before .before in
     let at-first = at-second .before .before .before in
@@ -26,7 +27,7 @@ returns-2 c =
     ∙ firstOf-fails _ _ _ _ (sym (at-second .before .enum-told .given .1) ∙ at-first .try-block .ensures)
 
 returns-3 : tie.Need-returns-3
-unfolding hashRules comment
+unfolding wanting isIn rules1to9 rules3to9 word comment
 returns-3 c =
     let at-second = c .before .before .before in
     let at-first = at-second .before .before .before in

@@ -7,7 +7,7 @@ use native.Mathlib.Omega.{arith}
 use borrow.Author.Tests.{not-true, not-false}
 use lib.ListN.{length}
 use Rattle.text.specs.Parts.{lineIn}
-use Rattle.rules.specs.Findings.{lineTest}
+use Rattle.rules.specs.LineTests.{lineTest}
 use Rattle.rules.proofs.Laws.LineOf.{indent-run, after-to, after-end, line-next}
 use Rattle.rules.proofs.Laws.LineRuns.{Counted, counted-start, counted-end, counted-here, counted-skip}
 use Rattle.rules.proofs.lines.lines_end.Statement.{statement}

@@ -14,19 +14,19 @@ use Rattle.rules.proofs.lines.try_table.Statement.{statement}
 use Rattle.rules.proofs.lines.try_table.Tie as tie
 
 starts-line-requires : tie.Need-starts-line-requires
-starts-line-requires c κs = let o = lineOf-order _ _ _ (c .before .pre) in omega arith
+starts-line-requires c κs = let o = lineOf-order _ _ _ (c .before .pre .line) in omega arith
 
 returns : tie.Need-returns
 returns c =
-    let pre = c .before .before .before .pre in
+    let pre = c .before .before .before .pre .line in
     table-no _ _ _ pre (sym (c .before .starts-line .ensures _ (lineOf-from _ _ _ pre)) ∙ not-true _ (c .if1 .taken))
 
 lines-end-requires : tie.Need-lines-end-requires
-lines-end-requires c κs = let o = lineOf-order _ _ _ (c .before .before .before .pre) in omega arith
+lines-end-requires c κs = let o = lineOf-order _ _ _ (c .before .before .before .pre .line) in omega arith
 
 lines-end-requires-2 : tie.Need-lines-end-requires-2
 lines-end-requires-2 c κs =
-    let o = lineOf-order _ _ _ (c .before .before .before .before .pre) in
+    let o = lineOf-order _ _ _ (c .before .before .before .before .pre .line) in
     (past-to _ _ _ _ (o .4) (o .5) _ (c .lines-end .ensures .0), o .5)
 
 add : tie.Need-add-t9
@@ -35,8 +35,8 @@ add c =
     let start = at-rows .before .before .before .before in
     let s = start .args .text .now in
     let l = start .args .line in
-    let e = start .args .to in
-    let o = lineOf-order _ _ _ (start .pre) in
+    let e = start .args .scope .end in
+    let o = lineOf-order _ _ _ (start .pre .line) in
     omega (arith, at-rows .lines-end .ensures .1, leading-le isRow (linesIn s (l .end) e), linesIn-length s (l .end) e (o .4) (o .5))
 
 returns-2 : tie.Need-returns-2
@@ -44,7 +44,7 @@ returns-2 c =
     let at-formulas = c .before in
     let at-rows = at-formulas .before in
     let at-test = at-rows .before in
-    let pre = at-test .before .before .before .pre in
+    let pre = at-test .before .before .before .pre .line in
     table-yes _ _ _ pre (sym (at-test .before .starts-line .ensures _ (lineOf-from _ _ _ pre)) ∙ not-false _ (at-test .if1 .left))
     _ _ _ (at-rows .lines-end .ensures .0) (at-formulas .lines-end2 .ensures .0) (at-rows .lines-end .ensures .1)
 

@@ -17,20 +17,20 @@ use Rattle.rules.proofs.planning.try_planning.Tie as tie
 returns : tie.Need-returns
 returns c =
     let start = c .before .before in
-    planning-no _ _ _ (start .pre) _ (rw (allowsPlanning-no (start .args .place) (λ e. miss (1 ∷ 2 ∷ 3 ∷ 4 ∷ []) 0 tt (rw e at (c .match .keys2)))))
+    planning-no _ _ _ (start .pre .line) _ (rw (allowsPlanning-no (start .args .scope .place) (λ e. miss (1 ∷ 2 ∷ 3 ∷ 4 ∷ []) 0 tt (rw e at (c .match .keys2)))))
 
 -- the place allows it, so the line decides
 line : (c : tie.After-is-planning) → let start = c .before .before .before .before in
-    (allowsPlanning (start .args .place) && isPlanning (lineIn (start .args .text .now) (start .args .line .start) (start .args .to)))
+    (allowsPlanning (start .args .scope .place) && isPlanning (lineIn (start .args .text .now) (start .args .line .start) (start .args .scope .end)))
     ≡ c .is-planning .result
 unfolding allowsPlanning
 line c = rw (c .before .enum-told .given .1) (sym (c .is-planning .ensures))
 
 returns-2 : tie.Need-returns-2
-returns-2 c = planning-no _ _ _ (c .before .before .before .before .before .pre) _ (line (c .before) ∙ not-true _ (c .if1 .taken))
+returns-2 c = planning-no _ _ _ (c .before .before .before .before .before .pre .line) _ (line (c .before) ∙ not-true _ (c .if1 .taken))
 
 returns-3 : tie.Need-returns-3
-returns-3 c = planning-yes _ _ _ (c .before .before .before .before .before .pre) _ (line (c .before) ∙ not-false _ (c .if1 .left))
+returns-3 c = planning-yes _ _ _ (c .before .before .before .before .before .pre .line) _ (line (c .before) ∙ not-false _ (c .if1 .left))
 
 pub try-planning-spec : {M : Type 1} → statement M
 try-planning-spec = tie.close (tie.spec (λ c. search needs) returns (λ c κs. search needs) returns-2 returns-3)
