@@ -67,8 +67,13 @@ pub fn try_block(text: &[u8], line: LineSpan, scope: Scope) -> Rule
         return Rule::Fails;
     }
     let inner = line.end;
-    let Closer::At(close, end, n) = find_closer(text, inner, scope.end, b"#+end_", &text[name..name_end])
-    else {
+    let Closer::At(close, end, n) = find_closer(
+        text,
+        inner,
+        scope.end,
+        b"#+end_",
+        &text[name..name_end],
+    ) else {
         return Rule::Fails;
     };
     let verbatim = verbatim_detail(text, name, name_end);

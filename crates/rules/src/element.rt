@@ -111,7 +111,11 @@ fn paragraph_end(text: &[u8], from: usize, scope: Scope) -> usize
             if line.to <= line.from {
                 return at;
             }
-            let here = Scope { end: to, place: Place::Elsewhere, ends: still };
+            let here = Scope {
+                end: to,
+                place: Place::Elsewhere,
+                ends: still,
+            };
             if let Rule::Holds(_) = find_rule(text, line, here) {
                 return at;
             }

@@ -1,7 +1,7 @@
 -- The laws of each of rules 1 to 9, one row a rule: it fails where the body's first byte is none that it wants, and what it finds is right.
 -- Assumes nothing.
-use mathlib.Core.Path.{_≡_, refl, _∙_}
-use mathlib.Core.Bool.{Bool, true, false, _&&_, and-false, true≢false}
+use mathlib.Core.Path.{_≡_, refl}
+use mathlib.Core.Bool.{Bool, true, false, _&&_, and-false}
 use mathlib.Core.List.{List, [], _∷_, _++_}
 use mathlib.Core.Option.{Option, none, some, Option·map}
 use Prim.Native.Nat.{ℕ, suc, _+_, _≤_, _<_}
@@ -14,12 +14,12 @@ use Rattle.text.specs.Runs.{word, isEmpty, same}
 use Rattle.text.specs.Lines.{Line, body, headLine, tailLines, leading}
 use Rattle.rules.specs.Kind
 use Rattle.rules.specs.Names.{numberIn}
-use Rattle.rules.specs.LineTests.{isPlanning, isPropertiesLine, isEndLine, isNodeProperty, blockName, isDrawerLine, isRow, isFormula, isComment, isFixedWidth}
-use Rattle.rules.specs.LineTests.{isHyphens, isKeyword}
+use Rattle.rules.specs.LineTests.{isPlanning, isPropertiesLine, isEndLine, isNodeProperty, blockName, isDrawerLine}
+use Rattle.rules.specs.LineTests.{isRow, isFormula, isComment, isFixedWidth, isHyphens, isKeyword}
 use Rattle.rules.specs.declared.place.Place.{Place}
 use Rattle.rules.specs.Places.{allowsProperties}
-use Rattle.rules.specs.Elements.{Found, found, LineRule, rule, when, planning, propertiesBefore, propertyDrawer, linesBefore, verbatimNames, greaterDetail}
-use Rattle.rules.specs.Elements.{blockOf, block, drawer, lineAnd, rowLines, table, comment, fixedWidth, horizontalRule, keyword}
+use Rattle.rules.specs.Elements.{Found, found, LineRule, rule, when, planning, propertiesBefore, propertyDrawer, linesBefore}
+use Rattle.rules.specs.Elements.{verbatimNames, greaterDetail, blockOf, block, drawer, lineAnd, rowLines, table, comment, fixedWidth, horizontalRule, keyword}
 use Rattle.rules.specs.Elements.{rules3to9, rules1to9}
 use Rattle.rules.specs.Spans.{Inner, wholeSpan, afterLine, lineBody, linesBetween, propertyValue, keywordValue, rowsOnly, ownLines, innerOf}
 use Rattle.rules.specs.Findings.{isIn}
@@ -47,7 +47,8 @@ when-no b f h = rw (h, when)
 abbrev Below : ℕ → Option ℕ → Type 0
 Below n = If (λ m. m < n)
 
-if-map : {A : Type 0} (P : A → Type 0) (n : ℕ) (g : ℕ → A) (o : Option ℕ) → Below n o → ((m : ℕ) → m < n → P (g m)) → If P (Option·map g o)
+if-map : {A : Type 0} (P : A → Type 0) (n : ℕ) (g : ℕ → A) (o : Option ℕ) → Below n o → ((m : ℕ) → m < n → P (g m))
+    → If P (Option·map g o)
 if-map P n g none k h = tt
 if-map P n g (some m) k h = h m k
 
@@ -183,14 +184,18 @@ module _ (ls : List Line) where
     unfolding propertyDrawer isPropertiesLine word isEmpty lower
     propertyDrawer-other h =
         let n : (allowsProperties pl && isPropertiesLine (headLine ls)) ≡ false =
-            rw (same-other (word ":properties:") x refl (one-other _ 58 h), and-false) in
+        rw (same-other (word ":properties:") x refl (one-other _ 58 h), and-false) in
         rw (n, propertyDrawer)
 
     -- what holds of each property drawer holds of what rule 2 finds
-    pub if-properties : (P : Found → Type 0) → ((n : ℕ) → n + 2 ≤ length ls → P (found Kind.propertyDrawer (n + 2) 0)) → If P (propertyDrawer pl ls)
+    pub if-properties : (P : Found → Type 0) → ((n : ℕ) → n + 2 ≤ length ls → P (found Kind.propertyDrawer (n + 2) 0))
+        → If P (propertyDrawer pl ls)
     unfolding propertyDrawer
-    if-properties P h = cases (allowsProperties pl && isPropertiesLine (headLine ls))
-        (λ e. rw (e, propertyDrawer) (if-closed P ls (λ n. found Kind.propertyDrawer (n + 2) 0) (propertiesBefore (tailLines ls)) (propertiesBefore-below (tailLines ls)) h))
+    if-properties P h =
+        let rest = tailLines ls in
+        let found-at : ℕ → Found = λ n. found Kind.propertyDrawer (n + 2) 0 in
+        cases (allowsProperties pl && isPropertiesLine (headLine ls))
+        (λ e. rw (e, propertyDrawer) (if-closed P ls found-at (propertiesBefore rest) (propertiesBefore-below rest) h))
         (λ e. rw (e, propertyDrawer) tt)
 
   -- what a rule with a test finds

@@ -145,8 +145,7 @@ element-elements-requires t c κs =
     let inside = i .elements counts in
     let first = c .before .first-line2 .ensures in
     let from = firstLine-from (start .args .text .now) (start .args .e .from) (start .args .e .to) (i .order) (omega arith) in
-    let shallow = at-emit .emit .ensures .1 .1 (at-if .before .before .before .if1 .left) in
-    (
+    let shallow = at-emit .emit .ensures .1 .1 (at-if .before .before .before .if1 .left) in (
       omega arith,
       (record { range = rw first (inside .2); place = rw first (i .place counts); ends = λ e. absurd (true≢false e) }, omega arith, omega arith, omega arith),
     )

@@ -9,7 +9,9 @@ use Rattle.rules.proofs.drawer.try_drawer.Statement.{statement}
 use Rattle.rules.proofs.drawer.try_drawer.Tie as tie
 
 returns : tie.Need-returns
-returns c = let start = c .before .before .before in let pre = start .pre in drawer-none _ _ _ (pre .line) (noEnd-next _ _ _ (pre .line) (pre .ends (not-true _ (c .if1 .taken))))
+returns c =
+    let pre = c .before .before .before .pre in
+    drawer-none _ _ _ (pre .line) (noEnd-next _ _ _ (pre .line) (pre .ends (not-true _ (c .if1 .taken))))
 
 returns-2 : tie.Need-returns-2
 returns-2 c =
