@@ -106,10 +106,10 @@ pub fn read_heading(text: &[u8], at: usize, last: usize, table: &mut [u32], sink
     } else {
         unwritten()
     };
-    let kept = emit(table, sink, r, 0);
+    let out = emit(table, sink, r, 0);
     Turn {
         next: next,
-        sink: read_section(text, inner, next, Place::AfterHeading, index, table, kept),
+        sink: read_section(text, inner, next, Place::AfterHeading, index, table, out),
     }
 }
 
@@ -121,15 +121,15 @@ pub fn read_headings(text: &[u8], from: usize, before: usize, table: &mut [u32],
     let end = text.len();
     let mut at = from;
     let mut last = before;
-    let mut kept = sink;
+    let mut out = sink;
     while at < end {
-        let index = kept.count;
-        let turn = read_heading(text, at, last, table, kept);
-        kept = turn.sink;
+        let index = out.count;
+        let turn = read_heading(text, at, last, table, out);
+        out = turn.sink;
         last = index;
         at = turn.next;
     }
-    kept
+    out
 }
 
 // The document and the zeroth section.
@@ -148,11 +148,11 @@ pub fn read_opening(text: &[u8], table: &mut [u32], sink: Sink) -> Turn
         parent: 0,
         detail: 0,
     };
-    let kept = emit(table, sink, r, 0);
+    let out = emit(table, sink, r, 0);
     let first = next_heading(text, 0, end);
     Turn {
         next: first,
-        sink: read_section(text, 0, first, Place::Opening, 0, table, kept),
+        sink: read_section(text, 0, first, Place::Opening, 0, table, out),
     }
 }
 

@@ -88,18 +88,18 @@ fn read_lines(
         };
     }
     let mut at = from;
-    let mut kept = sink;
+    let mut out = sink;
     while at < to {
         let line = line_at(text, at, to);
-        kept = emit(
+        out = emit(
             table,
-            kept,
+            out,
             line_record(text, line, to, rows, parent),
             depth,
         );
         at = line.end;
     }
-    kept
+    out
 }
 
 // The depth of an element of a kind in a container of a depth.
@@ -172,12 +172,12 @@ fn read_elements(
         return sink;
     }
     let mut at = from;
-    let mut kept = sink;
+    let mut out = sink;
     let mut step = next_element(text, from, scope);
     loop {
-        kept = read_element(text, at, step.end, step.e, depth, parent, table, kept);
+        out = read_element(text, at, step.end, step.e, depth, parent, table, out);
         if to <= step.end {
-            return kept;
+            return out;
         }
         at = step.end;
         step = next_element(text, at, step.scope);
@@ -211,17 +211,17 @@ fn read_element(
         parent: parent,
         detail: e.detail,
     };
-    let kept = emit(table, sink, r, inner);
-    if kept.stopped {
-        return kept;
+    let out = emit(table, sink, r, inner);
+    if out.stopped {
+        return out;
     }
     let rows = kind == kind::TABLE;
     if rows || kind == kind::PROPERTY_DRAWER {
         let first = first_line(text, e.from, e.to);
-        return read_lines(text, first, e.to, rows, e.lines, inner, index, table, kept);
+        return read_lines(text, first, e.to, rows, e.lines, inner, index, table, out);
     }
     if inner <= depth {
-        return kept;
+        return out;
     }
     let first = first_line(text, e.from, e.to);
     let scope = Scope {
@@ -229,7 +229,7 @@ fn read_element(
         place: Place::Elsewhere,
         ends: true,
     };
-    read_elements(text, first, scope, inner, index, table, kept)
+    read_elements(text, first, scope, inner, index, table, out)
 }
 
 // The section from the line after a heading line, or from the text's start, up to the next heading line; none where all of it is blank.
@@ -265,6 +265,6 @@ pub fn read_section(
         parent: parent,
         detail: 0,
     };
-    let kept = emit(table, sink, r, 0);
-    read_elements(text, at, scope, 0, index, table, kept)
+    let out = emit(table, sink, r, 0);
+    read_elements(text, at, scope, 0, index, table, out)
 }

@@ -33,10 +33,10 @@ record Reached (s : List ℕ) (from before : ℕ) (st₀ : State) (p last : ℕ)
   way : (hs : Earlier) → before ≡ lastIndex hs → Tracked st₀ hs → Way s from hs st₀ p last st
 
 abbrev Inv-loop : tie.InvT-loop
-Inv-loop text from before table₀ end at₀ last₀ kept₀ table at last kept = Reached text from before (state table₀ kept₀) at last (state table kept)
+Inv-loop text from before table₀ end at₀ last₀ out₀ table at last out = Reached text from before (state table₀ out₀) at last (state table out)
 
 abbrev μ-loop : tie.MeasureT-loop
-μ-loop text from before table₀ end at₀ last₀ kept₀ table at last kept = length text - at
+μ-loop text from before table₀ end at₀ last₀ out₀ table at last out = length text - at
 
 loop-holds : tie.Need-loop-holds Inv-loop μ-loop
 loop-holds c =
@@ -73,7 +73,7 @@ loop-again c =
           let w = loop .inv .way hs index tracked in
           let made = at-heading .read-heading .ensures .1 (w .earlier) (w .index) (w .tracked) in
           record {
-            earlier = (loop .kept .count, stars (lineAt _ (loop .at))) ∷ w .earlier;
+            earlier = (loop .out .count, stars (lineAt _ (loop .at))) ∷ w .earlier;
             index = refl;
             tracked = tracked-entry (w .tracked) _ _ made;
             same = rw next (heading-turn _ _ _ _ _ some made ∙ w .same);

@@ -174,14 +174,14 @@ step-rest : (s : List ℕ) (p e : ℕ) (r : Step) → StepAt s p e r → Range s
 step-rest s p e r h = rw (h .end) at (h .rest .range)
 
 abbrev Inv-loop : read-elements-lts.InvT-loop
-Inv-loop text from depth parent table₀ to at₀ kept₀ step₀ table at kept step =
+Inv-loop text from depth parent table₀ to at₀ out₀ step₀ table at out step =
     (from ≤ at) × (at < to) × Range text at to × StepAt text at to step
-    × (kept .count + 2 * from ≤ kept₀ .count + 2 * at) × (length table ≡ length table₀)
-    × (absorbed (state table kept) (entriesFrom text (elementsTo to) parent depth at (kept .count))
-    ≡ absorbed (state table₀ kept₀) (entriesFrom text (elementsTo to) parent depth from (kept₀ .count)))
+    × (out .count + 2 * from ≤ out₀ .count + 2 * at) × (length table ≡ length table₀)
+    × (absorbed (state table out) (entriesFrom text (elementsTo to) parent depth at (out .count))
+    ≡ absorbed (state table₀ out₀) (entriesFrom text (elementsTo to) parent depth from (out₀ .count)))
 
 abbrev μ-loop : read-elements-lts.MeasureT-loop
-μ-loop text from depth parent table₀ to at₀ kept₀ step₀ table at kept step = to - at
+μ-loop text from depth parent table₀ to at₀ out₀ step₀ table at out step = to - at
 
 none : (t : ℕ) → read-elements-lts.Need-returns (elements-calls t) (read-elements-at t) read-elements.Post Inv-loop μ-loop
 unfolding absorbed

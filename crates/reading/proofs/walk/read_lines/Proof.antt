@@ -17,13 +17,13 @@ use Rattle.reading.proofs.walk.read_lines.Statement.{statement}
 use Rattle.reading.proofs.walk.read_lines.Tie as tie
 
 abbrev Inv-loop : tie.InvT-loop
-Inv-loop text from to rows lines depth parent table₀ at₀ kept₀ table at kept =
-    (at ≤ to) × (kept .count + from ≤ kept₀ .count + at) × (length table ≡ length table₀)
-    × (absorbed (state table kept) (entriesFrom text (linesTo rows to) parent depth at (kept .count))
-    ≡ absorbed (state table₀ kept₀) (entriesFrom text (linesTo rows to) parent depth from (kept₀ .count)))
+Inv-loop text from to rows lines depth parent table₀ at₀ out₀ table at out =
+    (at ≤ to) × (out .count + from ≤ out₀ .count + at) × (length table ≡ length table₀)
+    × (absorbed (state table out) (entriesFrom text (linesTo rows to) parent depth at (out .count))
+    ≡ absorbed (state table₀ out₀) (entriesFrom text (linesTo rows to) parent depth from (out₀ .count)))
 
 abbrev μ-loop : tie.MeasureT-loop
-μ-loop text from to rows lines depth parent table₀ at₀ kept₀ table at kept = to - at
+μ-loop text from to rows lines depth parent table₀ at₀ out₀ table at out = to - at
 
 -- each line is a byte at least
 lines-le : (c : tie.Then1 Inv-loop μ-loop) → let args = c .before .before .before .before .args in args .lines + args .from ≤ args .to
@@ -80,7 +80,7 @@ returns-2 : tie.Need-returns-2 Inv-loop μ-loop
 returns-2 c =
     let loop = c .before .loop in
     let args = c .before .before .before .before .before .before .args in
-    (sym (lines-none (args .text .now) (args .rows) _ (args .parent) (args .depth) _ (loop .kept .count) _ (c .loop-test .left)) ∙ loop .inv .3, omega arith)
+    (sym (lines-none (args .text .now) (args .rows) _ (args .parent) (args .depth) _ (loop .out .count) _ (c .loop-test .left)) ∙ loop .inv .3, omega arith)
 
 pub read-lines-spec : {M : Type 1} → statement M
 read-lines-spec =

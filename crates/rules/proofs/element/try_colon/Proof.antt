@@ -31,10 +31,9 @@ unfolding wanting isIn rules1to9 rules3to9 word fixedWidth
 returns-3 c =
     let at-second = c .before .before .before in
     let at-first = at-second .before .before .before in
-    c .try-run .ensures
-    ∙ firstOf-last _ _ _
-    ∙ firstOf-fails _ _ _ _ (sym (c .before .enum-told2 .given .1) ∙ at-second .try-drawer .ensures)
-    ∙ firstOf-fails _ _ _ _ (sym (at-second .before .enum-told .given .1) ∙ at-first .try-property-drawer .ensures)
+    let first = sym (at-second .before .enum-told .given .1) ∙ at-first .try-property-drawer .ensures in
+    let second = sym (c .before .enum-told2 .given .1) ∙ at-second .try-drawer .ensures in
+    c .try-run .ensures ∙ firstOf-last _ _ _ ∙ firstOf-fails _ _ _ _ second ∙ firstOf-fails _ _ _ _ first
 
 pub try-colon-spec : {M : Type 1} → statement M
 try-colon-spec =
