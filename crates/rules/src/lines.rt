@@ -8,7 +8,7 @@ ghost use Rattle.text.specs.Lines.{size, indent, leading};
 ghost use Rattle.text.specs.Parts.{linesIn, lineIn};
 ghost use Rattle.rules.specs.LineTests.{isMarked, lineTest};
 ghost use Rattle.rules.specs.Elements.{table, runOf};
-ghost use Rattle.rules.specs.Spans.{innerOf, ownLines};
+ghost use Rattle.rules.specs.Kind.{innerOf, ownLines};
 ghost use Rattle.rules.specs.Findings.{InScope, ruleOn};
 use crate::kind;
 use crate::rule::Element;

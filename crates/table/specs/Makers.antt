@@ -9,7 +9,8 @@ use Rattle.text.specs.Parts.{linesIn, nextLine}
 use Rattle.rules.specs.Kind
 use Rattle.rules.specs.Headings.{isHeadingUpTo, stars}
 use Rattle.rules.specs.Elements.{elementAt}
-use Rattle.rules.specs.Spans.{innerOf, innerFrom, innerTo, OpenSpans}
+use Rattle.rules.specs.Kind.{innerOf}
+use Rattle.rules.specs.Spans.{innerFrom, innerTo, OpenSpans}
 use Rattle.table.specs.declared.record.Record.{Record}
 use Rattle.table.specs.Sections.{lineAt, sectionStart, sectionEnd, rowDetail, OpenSections}
 

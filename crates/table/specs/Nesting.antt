@@ -1,19 +1,14 @@
 -- The nesting of a table  [01 "Numbers of an answer"]: an outermost drawer or greater block has depth 1, any other is one deeper than the
 -- nearest around it; verbatim blocks don't count. A table's nesting is the greatest depth in it, else 0.
-use mathlib.Core.Bool.{Bool, true, false, _||_}
+use mathlib.Core.Bool.{true, false}
 use mathlib.Core.List.{List, [], _∷_, _++_}
 use Prim.Native.Nat.{ℕ, suc, max}
 use lib.ListN.{getD}
-use lib.Dec.{eqb}
-use Rattle.rules.specs.Kind
+use Rattle.rules.specs.Kind.{countsDepth}
 use Rattle.table.specs.declared.record.Record.{Record}
-
-unfoldable pub countsDepth : ℕ → Bool
-countsDepth k = eqb k Kind.drawer || eqb k Kind.greaterBlock
 
 -- the depth of a record of a kind in a container of depth d
 unfoldable pub depthIn : ℕ → ℕ → ℕ
-unfolding countsDepth
 depthIn d k = elim (countsDepth k) [ true ↦ suc d | false ↦ d ]
 
 -- each record's depth, by those of the records before it
@@ -30,5 +25,5 @@ nesting R = greatest (depths [] R)
 
 -- opens the definitions of this file, for computed examples
 unfoldable pub OpenNesting : Type 1
-unfolding countsDepth depthIn depths greatest nesting
+unfolding depthIn depths greatest nesting
 OpenNesting = Type 0

@@ -7,8 +7,9 @@ use lib.ListN.{length}
 use lib.Dec.{ltb}
 use Rattle.text.specs.Parts.{firstLine}
 use Rattle.rules.specs.Headings.{stars}
+use Rattle.rules.specs.Kind.{isHolder}
 use Rattle.table.specs.declared.record.Record.{Record}
-use Rattle.table.specs.Records.{isHolder, OpenRecords}
+use Rattle.table.specs.Records.{OpenRecords}
 use Rattle.table.specs.Sections.{lineAt, sectionEnd}
 use Rattle.table.specs.Makers.{documentRecord, headingRecord, sectionRecord, childRecord, OpenMakers}
 

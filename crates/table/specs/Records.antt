@@ -1,10 +1,7 @@
 -- Tables of records  [01 "A record"].
-use mathlib.Core.Bool.{Bool, _||_}
 use mathlib.Core.List.{List, [], _∷_, _++_}
 use Prim.Native.Nat.{ℕ}
 use lib.ListN.{getD}
-use lib.Dec.{eqb}
-use Rattle.rules.specs.Kind
 use Rattle.table.specs.declared.record.Record.{Record}
 
 -- Seven numbers: kind, start, end, inner start, inner end, parent's index, detail. Ends are one past.
@@ -38,19 +35,7 @@ at R k = getD R k noRecord
 abbrev pub up : List Record → ℕ → Record
 up R k = at R ((at R k) .parent)
 
--- Children of the document or a heading are headings and sections.
-unfoldable pub holdsSections : ℕ → Bool
-holdsSections k = eqb k Kind.document || eqb k Kind.heading
-
--- Children of a section, drawer or greater block are elements.
-unfoldable pub holdsElements : ℕ → Bool
-holdsElements k = eqb k Kind.section || eqb k Kind.drawer || eqb k Kind.greaterBlock
-
--- The kinds that have children: 1, 2, 3, 5, 7, 8 and 10. All other kinds are leaves.
-unfoldable pub isHolder : ℕ → Bool
-isHolder k = holdsSections k || holdsElements k || eqb k Kind.propertyDrawer || eqb k Kind.table
-
 -- opens the definitions of this file, for computed examples
 unfoldable pub OpenRecords : Type 1
-unfolding numbers holdsSections holdsElements isHolder
+unfolding numbers
 OpenRecords = Type 0

@@ -21,7 +21,7 @@ use Rattle.rules.specs.Places.{allowsProperties}
 use Rattle.rules.specs.Elements.{Found, found, LineRule, rule, when, planning, propertiesBefore, propertyDrawer, linesBefore}
 use Rattle.rules.specs.Elements.{verbatimNames, greaterDetail, blockOf, block, drawer, lineAnd, rowLines, table, comment, fixedWidth, horizontalRule, keyword}
 use Rattle.rules.specs.Elements.{rules3to9, rules1to9}
-use Rattle.rules.specs.Spans.{Inner, wholeSpan, afterLine, lineBody, linesBetween, propertyValue, keywordValue, rowsOnly, ownLines, innerOf}
+use Rattle.rules.specs.Kind.{Inner, wholeSpan, afterLine, lineBody, linesBetween, propertyValue, keywordValue, rowsOnly, ownLines, innerOf}
 use Rattle.rules.specs.Findings.{isIn}
 use Rattle.rules.proofs.Basics.{or-no, All, all-nil, all-cons, all-map}
 use Rattle.rules.proofs.Laws.FirstByte.{firstAt, begins-other, same-other, isMarked-other, betweenColons-other, hyphens-other}
@@ -113,7 +113,7 @@ Closed ownLines ls n = Unit {0}
 pub record Fine (ls : List Line) (f : Found) : Type 0 where
   pub own : 1 ≤ f .own
   pub low : Kind.planning ≤ f .kind
-  pub high : f .kind ≤ Kind.paragraph
+  pub high : f .kind ≤ Kind.lastKind
   pub detail : f .detail ≤ 5
   pub least : leastLines (innerOf (f .kind)) ls ≤ f .own
   pub closed : Closed (innerOf (f .kind)) ls (f .own)

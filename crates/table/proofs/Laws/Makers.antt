@@ -7,10 +7,10 @@ use native.Mathlib.Omega.{arith}
 use lib.Dec.{T}
 use borrow.Author.Tests.{eq-eqb, ne-eqb}
 use Rattle.rules.specs.Kind
+use Rattle.rules.specs.Kind.{holdsElements}
+use Rattle.rules.proofs.Laws.Kind.{elements-no-property, elements-no-table}
 use Rattle.table.specs.Makers.{elementRecord, lineRecord, childRecord}
-use Rattle.table.specs.Records.{holdsElements}
 use Rattle.table.specs.Sections.{rowDetail}
-use Rattle.table.proofs.Laws.Records.{elements-no-property, elements-no-table}
 use Rattle.table.specs.declared.record.Record.{Record}
 
 module _ (s : List ℕ) (c : Record) (q p : ℕ) where

@@ -9,9 +9,10 @@ use borrow.Author.Tests.{lt-ltb, le-ltb}
 use Rattle.text.specs.Parts.{firstLine, nextLine}
 use Rattle.rules.specs.Headings.{stars, isHeading, isHeadingUpTo}
 use Rattle.rules.specs.Kind
+use Rattle.rules.specs.Kind.{isHolder}
 use Rattle.table.specs.Makers.{headingRecord, sectionRecord, childRecord}
 use Rattle.table.specs.Reading.{contents, section, nearest, headings}
-use Rattle.table.specs.Records.{rec, isHolder}
+use Rattle.table.specs.Records.{rec}
 use Rattle.table.specs.Sections.{lineAt, sectionEnd, sectionStart}
 use Rattle.table.specs.declared.record.Record.{Record}
 

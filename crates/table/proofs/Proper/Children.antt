@@ -19,15 +19,16 @@ use Rattle.text.proofs.Laws.LinesIn.{linesIn-drop}
 use Rattle.rules.specs.Elements.{elementAt}
 use Rattle.rules.specs.Headings.{isHeading}
 use Rattle.rules.specs.Kind
+use Rattle.rules.specs.Kind.{holdsSections, isHolder}
 use Rattle.rules.specs.Places.{placeAt}
 use Rattle.rules.proofs.Laws.Elements.{fine-element}
+use Rattle.rules.proofs.Laws.Kind.{Holds, sections, elements, properties, rows, holder-holds}
 use Rattle.rules.proofs.Basics.{All, all-nil, all-cons, all-map}
 use Rattle.table.specs.Proper.{withParent, children, Tiled, IsHeadingRecord, IsSectionRecord, IsTopRecord, IsElementRecord, IsLineRecord, Proper}
-use Rattle.table.specs.Records.{at, up, holdsSections, isHolder}
+use Rattle.table.specs.Records.{at, up}
 use Rattle.table.specs.Sections.{lineAt}
 use Rattle.table.proofs.Basics.{on, split}
 use Rattle.table.proofs.Laws.Proper.{withParent-yes, withParent-no}
-use Rattle.table.proofs.Laws.Records.{Holds, sections, elements, properties, rows, holder-holds}
 use Rattle.table.specs.declared.record.Record.{Record}
 
 -- P holds of some record

@@ -16,20 +16,21 @@ use Rattle.text.proofs.Laws.Lines.{size-headLine, size-take-mono}
 use Rattle.text.proofs.Laws.LinesIn.{within-linesIn, some-linesIn, firstLine-from, firstLine-to}
 use Rattle.rules.specs.Elements.{Found, rowLines, elementAt}
 use Rattle.rules.specs.Kind
+use Rattle.rules.specs.Kind.{holdsSections, holdsElements, isHolder}
 use Rattle.rules.specs.Places.{placeAt}
-use Rattle.rules.specs.Spans.{linesBetween, innerOf, innerFrom, innerTo}
+use Rattle.rules.specs.Kind.{linesBetween, innerOf}
+use Rattle.rules.specs.Spans.{innerFrom, innerTo}
 use Rattle.rules.proofs.Laws.LineRules.{Fine}
 use Rattle.rules.proofs.Laws.Elements.{fine-element}
+use Rattle.rules.proofs.Laws.Kind.{sections-low, elements-no-property, elements-no-table, Holds, sections, elements, properties, rows, holder-holds, holder-inner}
 use Rattle.table.specs.Makers.{elementRecord, lineRecord, childRecord}
 use Rattle.table.specs.Proper.{IsElementRecord, IsLineRecord}
 use Rattle.table.specs.Reading.{contents, section}
-use Rattle.table.specs.Records.{at, holdsSections, holdsElements, isHolder}
+use Rattle.table.specs.Records.{at}
 use Rattle.table.specs.Sections.{rowDetail}
 use Rattle.table.proofs.Basics.{on, split}
 use Rattle.table.proofs.Laws.Makers.{childRecord-property, childRecord-row, childRecord-element}
 use Rattle.table.proofs.Laws.Reading.{held, held-yes, held-no, contents-none, contents-step}
-use Rattle.table.proofs.Laws.Records.{sections-low, elements-no-property, elements-no-table, Holds, sections, elements, properties, rows, holder-holds}
-use Rattle.table.proofs.Laws.Records.{holder-inner}
 use Rattle.table.proofs.Proper.Forest.{ChildAt, Forest, done, node}
 use Rattle.table.specs.declared.record.Record.{Record}
 
@@ -119,13 +120,13 @@ module _ (s : List ℕ) (c : Record) (q p : ℕ) (room : Room s c p) (lt : p < c
         record { here = child-at line refl refl (lines-within 1 (omega arith)) low element property row; deeper = λ h. absurd (leaf h) }
 
   property-good : c .kind ≡ Kind.propertyDrawer → Good s c q p (line Kind.nodeProperty (λ l. 0))
-  unfolding isHolder holdsSections holdsElements
+  unfolding isHolder
   property-good e =
       line-good Kind.nodeProperty (λ l. 0) (omega arith) (λ h. h) (λ h. absurd (elements-no-property (c .kind) h e))
       (λ h. line-is Kind.nodeProperty (λ l. 0)) (λ h. absurd (omega arith))
 
   row-good : c .kind ≡ Kind.table → Good s c q p (line Kind.row rowDetail)
-  unfolding isHolder holdsSections holdsElements
+  unfolding isHolder
   row-good e =
       line-good Kind.row rowDetail (omega arith) (λ h. h) (λ h. absurd (elements-no-table (c .kind) h e))
       (λ h. absurd (omega arith)) (λ h. line-is Kind.row rowDetail)

@@ -15,12 +15,13 @@ use borrow.Table.Steps.{cases}
 use Rattle.text.specs.Lines.{Line}
 use Rattle.text.proofs.Laws.LinesIn.{nextLine-to, nextLine-none}
 use Rattle.rules.specs.Headings.{isHeading, isHeadingUpTo}
+use Rattle.rules.specs.Kind.{holdsSections, isHolder}
 use Rattle.rules.proofs.Basics.{all-map}
 use Rattle.rules.proofs.Laws.Headings.{stars-some, upTo-no}
 use Rattle.table.specs.Makers.{documentRecord}
 use Rattle.table.specs.Proper.{withParent, children, headingLines, headingStarts, Each, EachLater, Proper}
 use Rattle.table.specs.Reading.{section, nearest, headings, reading}
-use Rattle.table.specs.Records.{noRecord, at, holdsSections, isHolder}
+use Rattle.table.specs.Records.{noRecord, at}
 use Rattle.table.specs.Sections.{sectionEnd}
 use Rattle.table.proofs.Basics.{split}
 use Rattle.table.proofs.Laws.Proper.{withParent-no, headingStarts-append, headingStarts-none, headingLinesFrom-zero, headingLinesFrom-next}

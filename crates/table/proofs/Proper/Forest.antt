@@ -11,13 +11,15 @@ use lib.Dec.{T}
 use lib.ListN.{length, drop, length-append}
 use Rattle.text.specs.Parts.{firstLine}
 use Rattle.rules.specs.Kind
+use Rattle.rules.specs.Kind.{isHolder}
 use Rattle.rules.proofs.Basics.{All, all-nil, all-cons, all-append, all-map}
+use Rattle.rules.proofs.Laws.Kind.{sections-low}
 use Rattle.table.specs.Proper.{withParent, Tiled}
 use Rattle.table.specs.Reading.{section}
-use Rattle.table.specs.Records.{at, isHolder}
+use Rattle.table.specs.Records.{at}
 use Rattle.table.proofs.Basics.{on, split}
 use Rattle.table.proofs.Laws.Proper.{withParent-append, withParent-yes, withParent-from}
-use Rattle.table.proofs.Laws.Records.{drop-run, at-head, drop-head, sections-low}
+use Rattle.table.proofs.Laws.Records.{drop-run, at-head, drop-head}
 use Rattle.table.proofs.Proper.Stands.{Child, Filled, Local, stands-local, Outside, outside-wider, withParent-outside, Placed, placed-first}
 use Rattle.table.proofs.Proper.Stands.{inside-more}
 use Rattle.table.specs.declared.record.Record.{Record}

@@ -13,11 +13,12 @@ use lib.ListN.{length, drop, length-drop}
 use Rattle.text.proofs.Laws.LinesIn.{nextLine-from, nextLine-skip, nextLine-wider}
 use Rattle.rules.specs.Headings.{isHeading, isHeadingUpTo}
 use Rattle.rules.specs.Kind
+use Rattle.rules.specs.Kind.{holdsSections}
 use Rattle.rules.proofs.Basics.{All, all-cons, all-map}
 use Rattle.rules.proofs.Laws.Headings.{stars-some, upTo-no, upTo-more}
 use Rattle.table.specs.Proper.{withParent, IsHeadingRecord, IsTopRecord, Within, Nearest}
 use Rattle.table.specs.Reading.{section, nearest}
-use Rattle.table.specs.Records.{at, holdsSections}
+use Rattle.table.specs.Records.{at}
 use Rattle.table.specs.Sections.{lineAt, sectionEnd}
 use Rattle.table.proofs.Basics.{on, split}
 use Rattle.table.proofs.Laws.Reading.{Earlier, nearest-here, nearest-skip, starsAt, nextHeading, nextUpTo, headingAt, groupAt}

@@ -11,11 +11,11 @@ use lib.ListN.{length}
 use Rattle.text.specs.Parts.{nextLine}
 use Rattle.text.proofs.Laws.LinesIn.{lineIn-to, lineIn-some, nextLine-from, nextLine-to, nextLine-passes}
 use Rattle.rules.specs.Headings.{isHeading}
+use Rattle.rules.specs.Kind.{holdsSections}
 use Rattle.rules.proofs.Basics.{All, all-nil, all-cons, all-append, all-map}
 use Rattle.rules.proofs.Laws.Headings.{stars-some, stars-le}
 use Rattle.table.specs.Proper.{headingStarts}
 use Rattle.table.specs.Reading.{nearest, headings}
-use Rattle.table.specs.Records.{holdsSections}
 use Rattle.table.specs.Sections.{lineAt}
 use Rattle.table.proofs.Basics.{split}
 use Rattle.table.proofs.Laws.Proper.{headingStarts-append, headingStarts-none, headingLinesFrom, headingLinesFrom-end, headingLinesFrom-here}

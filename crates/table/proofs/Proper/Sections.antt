@@ -12,16 +12,18 @@ use Rattle.text.proofs.Laws.LinesIn.{firstLine-from, firstLine-to, firstLine-ne
 use Rattle.rules.specs.Elements.{element}
 use Rattle.rules.specs.Headings.{isHeading, isHeadingUpTo}
 use Rattle.rules.specs.Kind
+use Rattle.rules.specs.Kind.{holdsSections, holdsElements, isHolder}
 use Rattle.rules.proofs.Basics.{All, all-nil, all-cons, all-map, all-getD}
 use Rattle.rules.proofs.Laws.Headings.{heading-nonblank, upTo-heading}
+use Rattle.rules.proofs.Laws.Kind.{sections-low, sections-holder, elements-high}
 use Rattle.table.specs.Proper.{withParent, Tiled, IsSectionRecord, IsTopRecord, Within}
 use Rattle.table.specs.Reading.{section}
-use Rattle.table.specs.Records.{noRecord, at, holdsSections, holdsElements, isHolder}
+use Rattle.table.specs.Records.{noRecord, at}
 use Rattle.table.specs.Sections.{sectionEnd, sectionStart}
 use Rattle.table.proofs.Basics.{split}
 use Rattle.table.proofs.Laws.Proper.{withParent-append, withParent-yes, withParent-from}
 use Rattle.table.proofs.Laws.Reading.{sectionOf, sectionContents, section-yes, section-no, nextUpTo}
-use Rattle.table.proofs.Laws.Records.{at-run, at-head, drop-head, sections-low, sections-holder, elements-high}
+use Rattle.table.proofs.Laws.Records.{at-run, at-head, drop-head}
 use Rattle.table.proofs.Laws.Sections.{sectionEnd-to, sectionStart-from, sectionStart-to, sectionStart-first, sectionStart-plain}
 use Rattle.table.proofs.Proper.Contents.{left-le, contents-forest}
 use Rattle.table.proofs.Proper.Forest.{Forest, own-from, owned, forest-filled, forest-local}
@@ -99,7 +101,7 @@ module _ (s : List ℕ) (c : Record) (top : Top s c) where
     -- ---- what the section holds
 
     inner-forest : Forest s sec (suc q) (firstLine s a e) (suc (suc q)) inner
-    unfolding isHolder holdsSections holdsElements
+    unfolding isHolder
     inner-forest =
         let first = firstLine s a e in
         let from = firstLine-from s a e start-to end-text in

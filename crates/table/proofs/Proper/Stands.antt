@@ -9,9 +9,10 @@ use lib.Dec.{T}
 use lib.ListN.{length, drop}
 use Rattle.text.specs.Parts.{firstLine}
 use Rattle.rules.specs.Kind
+use Rattle.rules.specs.Kind.{holdsSections, holdsElements, isHolder}
 use Rattle.rules.proofs.Basics.{All, all-map, all-getD}
 use Rattle.table.specs.Proper.{withParent, Tiled, IsTopRecord, IsElementRecord, IsLineRecord, Within, Nearest}
-use Rattle.table.specs.Records.{noRecord, at, up, holdsSections, holdsElements, isHolder}
+use Rattle.table.specs.Records.{noRecord, at, up}
 use Rattle.table.specs.Sections.{sectionEnd, sectionStart, rowDetail}
 use Rattle.table.proofs.Basics.{on, split}
 use Rattle.table.proofs.Laws.Proper.{withParent-none}

@@ -14,14 +14,15 @@ use Rattle.text.specs.Parts.{firstLine}
 use Rattle.rules.specs.Elements.{element}
 use Rattle.rules.specs.Headings.{isHeading}
 use Rattle.rules.specs.Kind
+use Rattle.rules.specs.Kind.{isHolder}
 use Rattle.rules.proofs.Basics.{all-of}
+use Rattle.rules.proofs.Laws.Kind.{Holds, sections, elements, properties, rows, holder-holds}
 use Rattle.table.specs.Proper.{withParent, children, Tiled, Has, IsHeadingRecord, IsSectionRecord, IsTopRecord, IsElementRecord, IsLineRecord}
 use Rattle.table.specs.Proper.{EachLater, Proper}
 use Rattle.table.specs.Reading.{section}
-use Rattle.table.specs.Records.{noRecord, at, up, isHolder}
+use Rattle.table.specs.Records.{noRecord, at, up}
 use Rattle.table.specs.Sections.{lineAt, rowDetail}
 use Rattle.table.proofs.Laws.Proper.{withParent-append, withParent-yes, withParent-none}
-use Rattle.table.proofs.Laws.Records.{Holds, sections, elements, properties, rows, holder-holds}
 use Rattle.table.proofs.Proper.Stands.{Child}
 use Rattle.table.specs.declared.record.Record.{Record}
 

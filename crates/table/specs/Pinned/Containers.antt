@@ -1,16 +1,8 @@
 -- Elements and what they hold: spans with their blank lines, parents, ends and places  [01 "What starts at a line"].
 use mathlib.Core.List.{List, [], _∷_}
-use Rattle.text.specs.Cases.{Case, case, below}
-use Rattle.table.specs.Records.{rec, holdsSections, holdsElements, isHolder}
+use Rattle.text.specs.Cases.{Case}
+use Rattle.table.specs.Records.{rec}
 use Rattle.table.specs.Cases.{_reads_, _kinds_, OpenTableCases}
-
--- the kinds that hold something
-unfoldable pub kindCases : List Case
-kindCases =
-    case "sections" (below 18 holdsSections []) (1 ∷ 2 ∷ [])
-    ∷ case "elements" (below 18 holdsElements []) (3 ∷ 7 ∷ 8 ∷ [])
-    ∷ case "anything" (below 18 isHolder []) (1 ∷ 2 ∷ 3 ∷ 5 ∷ 7 ∷ 8 ∷ 10 ∷ [])
-    ∷ []
 
 -- blank lines after an element are the element's, those before a container's first element the container's own
 unfoldable pub blankCases : List Case
@@ -99,5 +91,5 @@ drawerCases =
 
 -- opens these cases and what they are cases of
 unfoldable pub OpenContainerCases : Type 1
-unfolding OpenTableCases kindCases blankCases heldCases closerCases planningCases drawerCases
+unfolding OpenTableCases blankCases heldCases closerCases planningCases drawerCases
 OpenContainerCases = Type 0

@@ -13,9 +13,10 @@ use lib.Dec.{eqb}
 use Rattle.text.proofs.Laws.LinesIn.{firstLine-from, firstLine-to}
 use Rattle.rules.specs.Kind
 use Rattle.reading.specs.declared.walk.Step.{Step}
+use Rattle.rules.proofs.Laws.Kind.{counts-elements, isHolder-no}
 use Rattle.reading.specs.Walk.{state, absorbed, entriesFrom, elementsTo, linesTo, Range, StepAt}
 use Rattle.table.proofs.Basics.{on}
-use Rattle.reading.proofs.Laws.Holders.{depthIn-more, depthIn-same, counts-elements, isHolder-no, lines-kind}
+use Rattle.reading.proofs.Laws.Holders.{depthIn-more, depthIn-same, lines-kind}
 use Rattle.reading.proofs.Laws.Turns.{withHeld-stopped, withHeld-leaf, withHeld-elements, withHeld-lines}
 use Rattle.reading.proofs.Laws.EntriesStep.{entriesFrom-none}
 use Rattle.reading.proofs.Laws.Ranges.{element-turn}

@@ -6,17 +6,19 @@ use native.Mathlib.Numerals.{add-one}
 use borrow.Author.Needs.{needs}
 use borrow.Author.Tests.{eq-eqb, ne-eqb}
 use Rattle.rules.specs.Kind
-use Rattle.table.specs.Nesting.{countsDepth, depthIn}
+use Rattle.rules.specs.Kind.{countsDepth}
+use Rattle.rules.proofs.Laws.Kind.{countsDepth-is}
+use Rattle.table.specs.Nesting.{depthIn}
 use Rattle.reading.proofs.walk.depth_in.Statement.{statement}
 use Rattle.reading.proofs.walk.depth_in.Tie as tie
 
 counts : (c : tie.Joined1) → c .if1 .if2 ≡ countsDepth (c .before .args .kind)
-unfolding countsDepth
 counts c =
-    ⊎-elim
+    rw (countsDepth-is (c .before .args .kind))
+    (⊎-elim
     (λ w. w .1 ∙ rw (eq-eqb (c .before .args .kind) Kind.drawer (w .0 .taken)))
     (λ w. w .1 ∙ rw (ne-eqb (c .before .args .kind) Kind.drawer (w .0 .left)))
-    (c .if1 .came)
+    (c .if1 .came))
 
 returns : tie.Need-returns
 unfolding depthIn

@@ -4,7 +4,7 @@ use mathlib.Core.Path.{refl, sym, _∙_}
 use borrow.Author.Needs.{needs}
 use Rattle.text.specs.Runs.{word}
 use Rattle.rules.specs.Elements.{fixedWidth, rules3to9, rules1to9}
-use Rattle.rules.specs.Spans.{innerOf}
+use Rattle.rules.specs.Kind.{innerOf}
 use Rattle.rules.specs.Findings.{isIn, wanting}
 use Rattle.rules.proofs.Laws.FirstOf.{firstOf-holds, firstOf-fails, firstOf-last}
 use Rattle.rules.proofs.element.try_colon.Statement.{statement}

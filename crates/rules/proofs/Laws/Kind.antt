@@ -1,0 +1,153 @@
+-- Laws of the table of kinds. Each is a rule of the rows: where one test passes, another does. That is computed for the rows, and holds of what the
+-- table says of any number by induction over the table, so that a new row that keeps the rules asks for no new proof.
+-- Assumes nothing.
+use mathlib.Core.Path.{_≡_, refl, sym, subst}
+use mathlib.Core.Logic.{_⊎_, inl, inr, ⊎-elim}
+use mathlib.Core.Bool.{Bool, true, false, not, _&&_, _||_, true≢false}
+use mathlib.Core.List.{List, [], _∷_}
+use Prim.Native.Nat.{ℕ, _≤_}
+use native.Mathlib.Omega.{arith}
+use lib.Dec.{T, eqb, leb, ltb, leb→le, ltb→lt, eqb→eq}
+use borrow.Table.Steps.{cases}
+use borrow.Author.Tests.{eqb-true, le-leb}
+use Rattle.rules.specs.Kind
+use Rattle.rules.specs.Kind.{Inner, wholeSpan, afterLine, linesBetween, sameInner, Children, sameChildren, KindRow, kinds, noKind, kindAmong}
+use Rattle.rules.specs.Kind.{kindOf, innerOf, decided, holdsSections, holdsElements, isHolder, countsDepth}
+
+-- ---- rules of the rows
+
+-- a test of a number and of what the table says of it
+abbrev Test : Type 0
+Test = ℕ → KindRow → Bool
+
+-- it passes at each row
+abbrev every : Test → List KindRow → Bool
+every f [] = true
+every f (x ∷ xs) = f (x .number) x && every f xs
+
+among-passes : (f : Test) (xs : List KindRow) (k : ℕ) → every f xs ≡ true → f k noKind ≡ true → f k (kindAmong xs k) ≡ true
+unfolding kindAmong
+among-passes f [] k h o = o
+among-passes f (x ∷ xs) k h o = cases (f (x .number) x)
+    (λ i. cases (eqb (x .number) k)
+    (λ e. rw (e, kindAmong) (subst (λ (n : ℕ). f n x ≡ true) (eqb-true (x .number) k e) i))
+    (λ e. rw (e, kindAmong) (among-passes f xs k (rw i at h) o)))
+    (λ i. absurd (true≢false (sym (rw i at h))))
+
+-- where a passes, b does
+infix 100 _⇒_
+abbrev _⇒_ : Bool → Bool → Bool
+true ⇒ b = b
+false ⇒ b = true
+
+implied : (a b : Bool) → a ⇒ b ≡ true → T a → T b
+implied true b h t = rw h tt
+implied false b h t = absurd t
+
+decided-yes : {A : Type 0} (d : Dec A) → T (decided d) → A
+decided-yes (yes a) h = a
+decided-yes (no n) h = absurd h
+
+abbrev spans : Inner → Test
+spans i n x = decided (sameInner (x .inner) i)
+
+abbrev holds : Children → Test
+holds c n x = decided (sameChildren (x .holds) c)
+
+abbrev holder : Test
+holder n x = not (holds Kind.nothing n x)
+
+abbrev deep : Test
+deep n x = x .deep
+
+-- ---- what the table says of a number
+
+module _ (k : ℕ) where
+  rule : (a b : Test) → every (λ n x. a n x ⇒ b n x) kinds ≡ true → a k noKind ⇒ b k noKind ≡ true → T (a k (kindOf k)) → T (b k (kindOf k))
+  unfolding kindOf
+  rule a b h o = implied (a k (kindOf k)) (b k (kindOf k)) (among-passes (λ n x. a n x ⇒ b n x) kinds k h o)
+
+  pub sections-low : T (holdsSections k) → k ≤ Kind.heading
+  unfolding holdsSections
+  sections-low h = leb→le k Kind.heading (rule (holds Kind.sections) (λ n x. leb n Kind.heading) refl refl h)
+
+  pub sections-holder : T (holdsSections k) → T (isHolder k)
+  unfolding holdsSections isHolder
+  sections-holder = rule (holds Kind.sections) holder refl refl
+
+  pub elements-high : T (holdsElements k) → Kind.section ≤ k
+  unfolding holdsElements
+  elements-high h = leb→le Kind.section k (rule (holds Kind.elements) (λ n x. leb Kind.section n) refl refl h)
+
+  pub elements-holder : T (holdsElements k) → T (isHolder k)
+  unfolding holdsElements isHolder
+  elements-holder = rule (holds Kind.elements) holder refl refl
+
+  pub elements-no-property : T (holdsElements k) → k ≡ Kind.propertyDrawer → ⊥
+  unfolding holdsElements
+  elements-no-property h e = rw e at h
+
+  pub elements-no-table : T (holdsElements k) → k ≡ Kind.table → ⊥
+  unfolding holdsElements
+  elements-no-table h e = rw e at h
+
+  -- what a holder holds
+  pub data Holds : Type 0 where
+    sections : T (holdsSections k) → Holds
+    elements : T (holdsElements k) → Holds
+    properties : k ≡ Kind.propertyDrawer → Holds
+    rows : k ≡ Kind.table → Holds
+
+  pub holder-holds : T (isHolder k) → Holds
+  unfolding isHolder holdsSections holdsElements
+  holder-holds h = go (kindOf k .holds) refl
+    where
+      go : (c : Children) → kindOf k .holds ≡ c → Holds
+      go Kind.nothing e = absurd (rw e at h)
+      go Kind.sections e = sections (rw e tt)
+      go Kind.elements e = elements (rw e tt)
+      go Kind.properties e = properties (eqb→eq k Kind.propertyDrawer (rule (holds Kind.properties) (λ n x. eqb n Kind.propertyDrawer) refl refl (rw e tt)))
+      go Kind.rows e = rows (eqb→eq k Kind.table (rule (holds Kind.rows) (λ n x. eqb n Kind.table) refl refl (rw e tt)))
+
+  -- a holder from kind 4 on is a table, or holds the lines between its first and its last
+  pub holder-inner : Kind.planning ≤ k → T (isHolder k) → (k ≡ Kind.table) ⊎ (innerOf k ≡ linesBetween)
+  unfolding isHolder innerOf
+  holder-inner low h =
+      let i = rule holder (λ n x. leb Kind.planning n ⇒ (eqb n Kind.table || spans linesBetween n x)) refl refl h in
+      cases (eqb k Kind.table)
+      (λ e. inl (eqb-true k Kind.table e))
+      (λ e. inr (decided-yes (sameInner (innerOf k) linesBetween) (rw (le-leb Kind.planning k low, e) at i)))
+
+  -- from kind 4 on no inner span is the whole span, or all of it after its first line
+  pub inner-late : Kind.planning ≤ k → (innerOf k ≡ wholeSpan) ⊎ (innerOf k ≡ afterLine) → ⊥
+  unfolding innerOf
+  inner-late low o =
+      let early = rule (λ n x. spans wholeSpan n x || spans afterLine n x) (λ n x. ltb n Kind.planning) refl refl (⊎-elim (λ e. rw e tt) (λ e. rw e tt) o) in
+      omega (arith, ltb→lt k Kind.planning early)
+
+  -- ---- depth
+
+  pub counts-elements : T (countsDepth k) → T (holdsElements k)
+  unfolding countsDepth holdsElements
+  counts-elements = rule deep (holds Kind.elements) refl refl
+
+  pub counts-between : T (countsDepth k) → innerOf k ≡ linesBetween
+  unfolding countsDepth innerOf
+  counts-between h = decided-yes (sameInner (innerOf k) linesBetween) (rule deep (spans linesBetween) refl refl h)
+
+  pub isHolder-no : Kind.planning ≤ k → countsDepth k ≡ false → eqb k Kind.table ≡ false → eqb k Kind.propertyDrawer ≡ false → isHolder k ≡ false
+  unfolding isHolder countsDepth
+  isHolder-no low d t p = cases (isHolder k)
+      (λ e. absurd (rw (le-leb Kind.planning k low, d, t, p) at
+      (rule holder (λ n x. leb Kind.planning n ⇒ (deep n x || eqb n Kind.table || eqb n Kind.propertyDrawer)) refl refl (rw e tt))))
+      (λ e. e)
+
+  pub countsDepth-is : countsDepth k ≡ (eqb k Kind.drawer || eqb k Kind.greaterBlock)
+  unfolding countsDepth
+  countsDepth-is = cases (eqb k Kind.drawer)
+      (λ e. rw e (rw (eqb-true k Kind.drawer e)))
+      (λ e. cases (eqb k Kind.greaterBlock)
+      (λ i. rw (e, i) (rw (eqb-true k Kind.greaterBlock i)))
+      (λ i. rw (e, i) (cases (countsDepth k)
+      (λ d. absurd (rw (e, i) at (rule deep (λ n x. eqb n Kind.drawer || eqb n Kind.greaterBlock) refl refl (rw d tt))))
+      (λ d. d))))
