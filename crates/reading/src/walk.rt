@@ -10,7 +10,7 @@ ghost use Rattle.rules.specs.Findings.{LineOf, InScope, NoEnd};
 ghost use Rattle.table.specs.Makers.{childRecord};
 ghost use Rattle.table.specs.Nesting.{depthIn};
 ghost use Rattle.reading.specs.Walk.{Takes, entriesFrom, elementsTo, linesTo, sectionOf, sectionEntries, far};
-ghost use Rattle.reading.specs.Walk.{Range, RangeIn, ElementIn, StepAt, recordOf, withHeld};
+ghost use Rattle.reading.specs.Walk.{RangeIn, ElementIn, StepAt, recordOf, withHeld};
 use crate::sink::Sink;
 use crate::sink::emit;
 use rules::closer::may_end;
@@ -91,12 +91,7 @@ fn read_lines(
     let mut out = sink;
     while at < to {
         let line = line_at(text, at, to);
-        out = emit(
-            table,
-            out,
-            line_record(text, line, to, rows, parent),
-            depth,
-        );
+        out = emit(table, out, line_record(text, line, to, rows, parent), depth);
         at = line.end;
     }
     out

@@ -1,5 +1,6 @@
 pub mod Records
 pub mod Sections
 pub mod Makers
+pub mod Fits
 pub mod Proper
 pub mod Reading

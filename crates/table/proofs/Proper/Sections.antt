@@ -25,7 +25,8 @@ use Rattle.table.proofs.Laws.Proper.{withParent-append, withParent-yes,
 use Rattle.table.proofs.Laws.Reading.{sectionOf, sectionContents, section-yes, section-no, nextUpTo}
 use Rattle.table.proofs.Laws.Records.{at-run, at-head, drop-head}
 use Rattle.table.proofs.Laws.Sections.{sectionEnd-to, sectionStart-from, sectionStart-to, sectionStart-first, sectionStart-plain}
-use Rattle.table.proofs.Proper.Contents.{left-le, contents-forest}
+use Rattle.table.proofs.Laws.Fits.{left-to}
+use Rattle.table.proofs.Proper.Contents.{contents-forest}
 use Rattle.table.proofs.Proper.Forest.{Forest, own-from, owned, forest-filled, forest-local}
 use Rattle.table.proofs.Proper.Stands.{Child, Filled, SectionAfter, Local, stands-local, outside-wider, Placed, placed-first}
 use Rattle.table.specs.declared.record.Record.{Record}
@@ -107,7 +108,7 @@ module _ (s : List ℕ) (c : Record) (top : Top s c) where
         let from = firstLine-from s a e start-to end-text in
         let to = firstLine-to s a e start-to end-text in
         contents-forest (suc (e - a)) s sec (suc q) first (suc (suc q))
-        (record { holder = tt; kind = omega arith; from = from; to = to; text = end-text }) (omega (arith, left-le sec first))
+        (record { holder = tt; kind = omega arith; from = from; to = to; text = end-text }) (omega (arith, left-to sec first))
 
     inner-from : All (λ r. suc q ≤ r .parent) inner
     inner-from = all-map (own-from (suc q) (suc (suc q)) (omega arith)) (owned inner-forest)
