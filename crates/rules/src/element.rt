@@ -1,5 +1,5 @@
 ghost use mathlib.Core.Path.{_≡_};
-ghost use mathlib.Core.Bool.{false};
+ghost use mathlib.Core.Bool.{true, false};
 ghost use mathlib.Core.List.{[]};
 ghost use Prim.Native.Nat.{_+_, _≤_};
 ghost use lib.ListN.{length, take};
@@ -24,6 +24,7 @@ use crate::rule::Element;
 use crate::rule::Rule;
 use crate::scope::Scope;
 use text::bytes::Class;
+use text::bytes::is_name;
 use text::bytes::run_end;
 use text::line::LineSpan;
 use text::line::line_at;
@@ -77,15 +78,14 @@ pub fn find_rule(text: &[u8], line: LineSpan, scope: Scope) -> Rule
     }
 }
 
-// Whether a line may be other than a further line of a paragraph, by its first byte after the indentation, which is not byte 10:
-// it may be blank, or start one of rules 3 to 9.
-fn may_stop(b: u8) -> bool
-    ensures { λ r. ⌜ (r ≡ false → (b ≡ 13 → ⊥) × (wanting (lower b) rules3to9 ≡ [])) ⌝ }
+// Whether a byte is a letter, a digit, `_` or above ASCII. A line whose body starts with one is not blank, and none of rules 3 to 9 wants it.
+fn starts_text(b: u8) -> bool
+    ensures { λ r. ⌜ (r ≡ true → (b ≡ 13 → ⊥) × (wanting (lower b) rules3to9 ≡ [])) ⌝ }
 {
-    match b {
-        13 | b':' | b'#' | b'|' | b'-' => true,
-        _ => false,
+    if 128 <= b {
+        return true;
     }
+    is_name(b) && b != b'-'
 }
 
 // The end of the further lines of a paragraph: up to a blank line, the end, or a line where a rule holds.  [01 rule 10]
@@ -106,7 +106,9 @@ fn paragraph_end(text: &[u8], from: usize, scope: Scope) -> usize
         if first == 10 {
             return at;
         }
-        if may_stop(first) {
+        if starts_text(first) {
+            at = line_end(text, body, to);
+        } else {
             let line = line_at(text, at, to);
             if line.to <= line.from {
                 return at;
@@ -121,8 +123,6 @@ fn paragraph_end(text: &[u8], from: usize, scope: Scope) -> usize
             }
             still = may_end(text, line, here);
             at = line.end;
-        } else {
-            at = line_end(text, body, to);
         }
     }
     at

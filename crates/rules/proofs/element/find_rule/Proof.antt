@@ -1,20 +1,22 @@
 -- `rules::element::find_rule` meets its contract: the first byte of the body tells which rules can hold, and no rule holds at a blank line.
 -- Assumes nothing.
 use mathlib.Core.Path.{_≡_, refl, ap, _∙_}
+use mathlib.Core.List.{[]}
 use mathlib.Core.Logic.{inl, inr, ⊎-elim}
 use Prim.Native.Nat.{ℕ}
 use native.Mathlib.Omega.{arith}
 use lib.ListN.{getD}
 use borrow.Author.Needs.{needs}
-use Rattle.text.specs.Bytes.{lower}
+use Rattle.text.specs.Bytes.{lower, isLetter}
 use Rattle.text.specs.Runs.{word}
 use Rattle.text.specs.Parts.{linesIn}
+use Rattle.rules.specs.declared.place.Place.{Place}
 use Rattle.rules.specs.Elements.{firstOf, rules3to9, rules1to9}
 use Rattle.rules.specs.Findings.{ruleAt, isIn, wanting}
 use Rattle.rules.specs.declared.rule.Rule.the-variants.{Fails}
 use Rattle.rules.proofs.Laws.LineOf.{lineOf-order}
-use Rattle.rules.proofs.Laws.FirstByte.{firstAt, first-none, first-some, planning-upper, planning-small, planning-s}
-use Rattle.rules.proofs.Laws.FirstOf.{firstOf-byte, firstOf-none, firstOf-bar, firstOf-hyphen, firstOf-letter, unwanted}
+use Rattle.rules.proofs.Laws.FirstByte.{mark-other, letter-other, firstAt, first-none, first-some, planning-upper, planning-small, planning-s}
+use Rattle.rules.proofs.Laws.FirstOf.{firstOf-byte, firstOf-none, firstOf-bar, firstOf-hyphen, firstOf-letter}
 use Rattle.rules.proofs.element.find_rule.Statement.{statement}
 use Rattle.rules.proofs.element.find_rule.Tie as tie
 
@@ -49,7 +51,16 @@ returns-5 : tie.Need-returns-5
 unfolding lower
 returns-5 c = rw (firstOf-hyphen _ _ (first (c .before .before .before) ∙ ap lower (c .before .match .keys5))) (c .try-horizontal-rule .ensures)
 
--- a byte of no arm: neither a key nor in a range
+-- a byte of no arm is one that no rule wants
+module _ (b : ℕ) (c : b ≡ 67 → ⊥) (d : b ≡ 68 → ⊥) (s : b ≡ 83 → ⊥) (c′ : b ≡ 99 → ⊥) (d′ : b ≡ 100 → ⊥) (s′ : b ≡ 115 → ⊥) where
+  unwanted : (colon : b ≡ 58 → ⊥) (hash : b ≡ 35 → ⊥) (bar : b ≡ 124 → ⊥) (hyphen : b ≡ 45 → ⊥) (pl : Place) → wanting (lower b) (rules1to9 pl) ≡ []
+  unfolding wanting isIn rules1to9 rules3to9 word isLetter
+  unwanted colon hash bar hyphen pl =
+      let c58 = mark-other b 58 refl colon in
+      let c35 = mark-other b 35 refl hash in
+      rw (letter-other b 67 c c′, letter-other b 68 d d′, letter-other b 83 s s′, c58, c35, c58, mark-other b 124 refl bar, c35, c58, mark-other b 45 refl hyphen, c35, wanting)
+
+-- neither a key nor in a range
 rest : (c : tie.At-match-rest) →
     let args = c .before .before .before .before .before .args in
     let s = args .text .now in
@@ -62,7 +73,7 @@ rest c h i j k =
     let s = start .args .text .now in
     let r = c .match .rest in
     let b = getD s (start .args .line .from) 0 in
-    let n = unwanted b (r .0 .0 .0 .1) (r .0 .0 .1) (r .0 .1) (r .1) h i (λ e. r .0 .0 .0 .0 .1 (inl e)) j k (λ e. r .0 .0 .0 .0 .1 (inr e)) in
+    let n = unwanted b h i (λ e. r .0 .0 .0 .0 .1 (inl e)) j k (λ e. r .0 .0 .0 .0 .1 (inr e)) (r .0 .0 .0 .1) (r .0 .0 .1) (r .0 .1) (r .1) in
     rw (firstOf-none (linesIn s (start .args .line .start) (start .args .scope .end)) (start .args .scope .place) _ (first (c .before .before)) (n _))
 
 returns-6 : tie.Need-returns-6

@@ -43,7 +43,7 @@ returns-2 c =
     let inv = at-test .before .loop .inv in
     sym (paragraph-newline _ _ _ (at-test .loop-test .taken) (inv .1) _ (at-body .run-end .ensures) (at-some .if1 .left) (c .if2 .taken)) ∙ inv .3
 
--- ---- a line whose first byte may stop
+-- ---- a line whose first byte may start a rule
 
 -- where the line at `at` is looked for
 abbrev in-loop : tie.After-line-at Inv-loop μ-loop → tie.In-loop Inv-loop μ-loop
@@ -88,11 +88,11 @@ returns-4 c =
 may-end-requires : tie.Need-may-end-requires Inv-loop μ-loop
 may-end-requires c κs = let at-line = c .before .before .before .before .before in record { line = line at-line; ends = none at-line }
 
-loop-less : tie.Need-loop-less Inv-loop μ-loop
-loop-less c = omega (arith, next (c .before .before .before .before .before .before))
+loop-less-2 : tie.Need-loop-less-2 Inv-loop μ-loop
+loop-less-2 c = omega (arith, next (c .before .before .before .before .before .before))
 
-loop-again : tie.Need-loop-again Inv-loop μ-loop
-loop-again c =
+loop-again-2 : tie.Need-loop-again-2 Inv-loop μ-loop
+loop-again-2 c =
     let at-rule = c .before .before .before in
     let at-test = at-rule .before in
     let at-line = at-test .before .before in
@@ -105,7 +105,7 @@ loop-again c =
           ∙ inv .3,
     )
 
--- ---- a line whose first byte does not
+-- ---- a line whose first byte starts none
 
 -- it ends where what is left of it past the indentation does
 end : (c : tie.After-line-end Inv-loop μ-loop) →
@@ -114,21 +114,21 @@ end : (c : tie.After-line-end Inv-loop μ-loop) →
     c .line-end .result ≡ at-loop .loop .at + length (lineIn (args .text .now) (at-loop .loop .at) (args .scope .end))
 end c = c .line-end .ensures ∙ after-end _ _ _ _ (indent-run _ _ _ _ (c .before .before .before .before .before .before .run-end .ensures))
 
-loop-less-2 : tie.Need-loop-less-2 Inv-loop μ-loop
-loop-less-2 c =
+loop-less : tie.Need-loop-less Inv-loop μ-loop
+loop-less c =
     let at-test = c .before .before .before .before .before .before .before in
     let args = at-test .before .before .before .args in
     omega (arith, end c, lineIn-some (args .text .now) (at-test .before .loop .at) (args .scope .end) (at-test .loop-test .taken) (at-test .before .loop .inv .1))
 
-loop-again-2 : tie.Need-loop-again-2 Inv-loop μ-loop
-loop-again-2 c =
+loop-again : tie.Need-loop-again Inv-loop μ-loop
+loop-again c =
     let at-stop = c .before .before in
     let at-byte = at-stop .before in
     let at-some = at-byte .before .before in
     let at-body = at-some .before in
     let at-test = at-body .before in
     let inv = at-test .before .loop .inv in
-    let plain = at-stop .may-stop .ensures (c .before .if3 .left) in (
+    let plain = at-stop .starts-text .ensures (c .before .if3 .taken) in (
       rw (end c) (lineIn-to _ _ _ (inv .0) (inv .1)),
       inv .1,
       λ z. rw (end c) (noEnd-line _ _ _ (inv .2 z)),
@@ -153,15 +153,15 @@ paragraph-end-spec =
     returns-2
     (λ c κs. search needs)
     (λ c κs. omega arith)
+    loop-less
+    loop-again
+    (λ c κs. omega arith)
     returns-3
     find-rule-requires
     (λ c. search needs)
     returns-4
     (λ c. search needs)
     may-end-requires
-    loop-less
-    loop-again
-    (λ c κs. omega arith)
     loop-less-2
     loop-again-2
     returns-5)
