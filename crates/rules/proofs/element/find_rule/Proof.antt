@@ -11,12 +11,12 @@ use Rattle.text.specs.Bytes.{lower, isLetter}
 use Rattle.text.specs.Runs.{word}
 use Rattle.text.specs.Parts.{linesIn}
 use Rattle.rules.specs.declared.place.Place.{Place}
-use Rattle.rules.specs.Elements.{firstOf, rules3to9, rules1to9}
+use Rattle.rules.specs.Elements.{rule, table, horizontalRule, firstOf, rules3to9, rules1to9}
 use Rattle.rules.specs.Findings.{ruleAt, isIn, wanting}
 use Rattle.rules.specs.declared.rule.Rule.the-variants.{Fails}
 use Rattle.rules.proofs.Laws.LineOf.{lineOf-order}
 use Rattle.rules.proofs.Laws.FirstByte.{mark-other, letter-other, firstAt, first-none, first-some, planning-upper, planning-small, planning-s}
-use Rattle.rules.proofs.Laws.FirstOf.{firstOf-byte, firstOf-none, firstOf-bar, firstOf-hyphen, firstOf-letter}
+use Rattle.rules.proofs.Laws.FirstOf.{firstOf-byte, firstOf-none, firstOf-only, firstOf-letter}
 use Rattle.rules.proofs.element.find_rule.Statement.{statement}
 use Rattle.rules.proofs.element.find_rule.Tie as tie
 
@@ -44,12 +44,12 @@ unfolding lower
 returns-3 c = rw (firstOf-byte _ _ 35 (first (c .before .before .before) ∙ ap lower (c .before .match .keys3))) (c .try-hash .ensures)
 
 returns-4 : tie.Need-returns-4
-unfolding lower
-returns-4 c = rw (firstOf-bar _ _ (first (c .before .before .before) ∙ ap lower (c .before .match .keys4))) (c .try-table .ensures)
+unfolding lower wanting isIn rules1to9 rules3to9 word
+returns-4 c = rw (firstOf-only _ _ 124 (rule (word "|") table) refl (first (c .before .before .before) ∙ ap lower (c .before .match .keys4))) (c .try-table .ensures)
 
 returns-5 : tie.Need-returns-5
-unfolding lower
-returns-5 c = rw (firstOf-hyphen _ _ (first (c .before .before .before) ∙ ap lower (c .before .match .keys5))) (c .try-horizontal-rule .ensures)
+unfolding lower wanting isIn rules1to9 rules3to9 word
+returns-5 c = rw (firstOf-only _ _ 45 (rule (word "-") horizontalRule) refl (first (c .before .before .before) ∙ ap lower (c .before .match .keys5))) (c .try-horizontal-rule .ensures)
 
 -- a byte of no arm is one that no rule wants
 module _ (b : ℕ) (c : b ≡ 67 → ⊥) (d : b ≡ 68 → ⊥) (s : b ≡ 83 → ⊥) (c′ : b ≡ 99 → ⊥) (d′ : b ≡ 100 → ⊥) (s′ : b ≡ 115 → ⊥) where
