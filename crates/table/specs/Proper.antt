@@ -10,10 +10,9 @@ use lib.Dec.{T, eqb}
 use Rattle.text.specs.Lines.{Line, lines, size, headLine, blanks}
 use Rattle.text.specs.Parts.{linesIn, firstLine, nextLine}
 use Rattle.rules.specs.Kind
-use Rattle.rules.specs.Kind.{holdsSections, holdsElements, isHolder}
+use Rattle.rules.specs.Kind.{holdsSections, holdsElements, isHolder, innerOf}
 use Rattle.rules.specs.Headings.{isHeading, isHeadingUpTo, stars}
 use Rattle.rules.specs.Elements.{elementAt}
-use Rattle.rules.specs.Kind.{innerOf}
 use Rattle.rules.specs.Spans.{innerFrom, innerTo}
 use Rattle.table.specs.declared.record.Record.{Record}
 use Rattle.table.specs.Records.{at, up}
