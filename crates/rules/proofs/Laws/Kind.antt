@@ -67,6 +67,10 @@ module _ (k : ℕ) where
   unfolding kindOf
   rule a b h o = implied (a k (kindOf k)) (b k (kindOf k)) (among-passes (λ n x. a n x ⇒ b n x) kinds k h o)
 
+  -- one kind alone passes
+  only : (a : Test) (m : ℕ) → every (λ n x. a n x ⇒ eqb n m) kinds ≡ true → a k noKind ⇒ eqb k m ≡ true → T (a k (kindOf k)) → k ≡ m
+  only a m h o t = eqb→eq k m (rule a (λ n x. eqb n m) h o t)
+
   pub sections-low : T (holdsSections k) → k ≤ Kind.heading
   unfolding holdsSections
   sections-low h = leb→le k Kind.heading (rule (holds Kind.sections) (λ n x. leb n Kind.heading) refl refl h)
@@ -106,8 +110,8 @@ module _ (k : ℕ) where
       go Kind.nothing e = absurd (rw e at h)
       go Kind.sections e = sections (rw e tt)
       go Kind.elements e = elements (rw e tt)
-      go Kind.properties e = properties (eqb→eq k Kind.propertyDrawer (rule (holds Kind.properties) (λ n x. eqb n Kind.propertyDrawer) refl refl (rw e tt)))
-      go Kind.rows e = rows (eqb→eq k Kind.table (rule (holds Kind.rows) (λ n x. eqb n Kind.table) refl refl (rw e tt)))
+      go Kind.properties e = properties (only (holds Kind.properties) Kind.propertyDrawer refl refl (rw e tt))
+      go Kind.rows e = rows (only (holds Kind.rows) Kind.table refl refl (rw e tt))
 
   -- a holder from kind 4 on is a table, or holds the lines between its first and its last
   pub holder-inner : Kind.planning ≤ k → T (isHolder k) → (k ≡ Kind.table) ⊎ (innerOf k ≡ linesBetween)
@@ -122,8 +126,8 @@ module _ (k : ℕ) where
   pub inner-late : Kind.planning ≤ k → (innerOf k ≡ wholeSpan) ⊎ (innerOf k ≡ afterLine) → ⊥
   unfolding innerOf
   inner-late low o =
-      let early = rule (λ n x. spans wholeSpan n x || spans afterLine n x) (λ n x. ltb n Kind.planning) refl refl (⊎-elim (λ e. rw e tt) (λ e. rw e tt) o) in
-      omega (arith, ltb→lt k Kind.planning early)
+      let early = rule (λ n x. spans wholeSpan n x || spans afterLine n x) (λ n x. ltb n Kind.planning) refl refl in
+      omega (arith, ltb→lt k Kind.planning (early (⊎-elim (λ e. rw e tt) (λ e. rw e tt) o)))
 
   -- ---- depth
 

@@ -12,7 +12,7 @@ use Rattle.text.proofs.Laws.LinesIn.{firstLine-from, firstLine-to, firstLine-ne
 use Rattle.rules.specs.Elements.{element}
 use Rattle.rules.specs.Headings.{isHeading, isHeadingUpTo}
 use Rattle.rules.specs.Kind
-use Rattle.rules.specs.Kind.{holdsSections, holdsElements, isHolder}
+use Rattle.rules.specs.Kind.{holdsSections, isHolder}
 use Rattle.rules.proofs.Basics.{All, all-nil, all-cons, all-map, all-getD}
 use Rattle.rules.proofs.Laws.Headings.{heading-nonblank, upTo-heading}
 use Rattle.rules.proofs.Laws.Kind.{sections-low, sections-holder, elements-high}
