@@ -1,5 +1,5 @@
 ghost use mathlib.Core.Path.{_≡_};
-ghost use mathlib.Core.Bool.{false};
+ghost use mathlib.Core.Bool.{true, false};
 ghost use Prim.Native.Nat.{_+_, _*_, _≤_, _<_};
 ghost use lib.ListN.{length};
 ghost use Rattle.text.specs.Limits.{depthLimit, textLimit};
@@ -10,7 +10,7 @@ ghost use Rattle.rules.specs.Findings.{LineOf, InScope, NoEnd};
 ghost use Rattle.table.specs.Makers.{childRecord};
 ghost use Rattle.table.specs.Nesting.{depthIn};
 ghost use Rattle.reading.specs.Walk.{Takes, entriesFrom, elementsTo, linesTo, sectionOf, sectionEntries, far};
-ghost use Rattle.reading.specs.Walk.{RangeIn, ElementIn, StepAt, recordOf, withHeld};
+ghost use Rattle.reading.specs.Walk.{scopeOf, RangeIn, ElementIn, StepAt, recordOf, withHeld};
 use crate::sink::Sink;
 use crate::sink::emit;
 use rules::closer::may_end;
@@ -120,30 +120,33 @@ fn ends_after(text: &[u8], line: LineSpan, scope: Scope, kind: usize) -> bool
     may_end(text, line, scope)
 }
 
-// An element, where the next one starts, and the scope there.
+// An element, where the next one starts, and what its scope says besides the end.
 pub struct Step {
     pub e: Element,
     pub end: usize,
-    pub scope: Scope,
+    pub place: Place,
+    pub ends: bool,
 }
 
-// The element at a line of a range, and how to go on after it.
-fn next_element(text: &[u8], at: usize, scope: Scope) -> Step
-    requires { ⌜ RangeIn (now text) at scope × (at < scope .end) ⌝ }
-    ensures { λ r. ⌜ StepAt (now (text .entry)) at (scope .end) r ⌝ }
+// The element at a line of a range, and how to go on after it. The scope is taken apart here and in `read_elements`: as a struct it would cost
+// every level of nesting some 50 bytes of stack.
+fn next_element(text: &[u8], at: usize, to: usize, place: Place, ends: bool) -> Step
+    requires { ⌜ RangeIn (now text) at (scopeOf to place ends) × (at < to) ⌝ }
+    ensures { λ r. ⌜ StepAt (now (text .entry)) at to r ⌝ }
 {
-    let line = line_at(text, at, scope.end);
+    let scope = Scope {
+        end: to,
+        place: place,
+        ends: ends,
+    };
+    let line = line_at(text, at, to);
     let e = element_at(text, line, scope);
-    let end = first_line(text, e.end, scope.end);
-    let place = scope.place;
+    let end = first_line(text, e.end, to);
     Step {
         e: e,
         end: end,
-        scope: Scope {
-            end: scope.end,
-            place: next_place(place, e.kind, end == e.end),
-            ends: ends_after(text, line, scope, e.kind),
-        },
+        place: next_place(place, e.kind, end == e.end),
+        ends: ends_after(text, line, scope, e.kind),
     }
 }
 
@@ -152,30 +155,31 @@ fn next_element(text: &[u8], at: usize, scope: Scope) -> Step
 fn read_elements(
     text: &[u8],
     from: usize,
-    scope: Scope,
+    to: usize,
+    place: Place,
     depth: usize,
     parent: usize,
     table: &mut [u32],
     sink: Sink,
 ) -> Sink
-    requires { ⌜ RangeIn (now text) from scope × (depth ≤ depthLimit) × (parent ≤ far) × (sink .count ≤ 2 * from + 2) ⌝ }
-    ensures { λ r. ⌜ Takes (now (table .entry)) sink (entriesFrom (now (text .entry)) (elementsTo (scope .end)) parent depth from (sink .count)) (now (table .exit)) r ⌝ }
-    ensures { λ r. ⌜ r .count + 2 * from ≤ sink .count + 2 * scope .end ⌝ }
+    requires { ⌜ RangeIn (now text) from (scopeOf to place true) × (depth ≤ depthLimit) × (parent ≤ far) × (sink .count ≤ 2 * from + 2) ⌝ }
+    ensures { λ r. ⌜ Takes (now (table .entry)) sink (entriesFrom (now (text .entry)) (elementsTo to) parent depth from (sink .count)) (now (table .exit)) r ⌝ }
+    ensures { λ r. ⌜ r .count + 2 * from ≤ sink .count + 2 * to ⌝ }
 {
-    let to = scope.end;
     if to <= from {
         return sink;
     }
     let mut at = from;
     let mut out = sink;
-    let mut step = next_element(text, from, scope);
+    let mut step = next_element(text, from, to, place, true);
     loop {
         out = read_element(text, at, step.end, step.e, depth, parent, table, out);
         if to <= step.end {
             return out;
         }
         at = step.end;
-        step = next_element(text, at, step.scope);
+        let here = step.place;
+        step = next_element(text, at, to, here, step.ends);
     }
 }
 
@@ -219,12 +223,16 @@ fn read_element(
         return out;
     }
     let first = first_line(text, e.from, e.to);
-    let scope = Scope {
-        end: e.to,
-        place: Place::Elsewhere,
-        ends: true,
-    };
-    read_elements(text, first, scope, inner, index, table, out)
+    read_elements(
+        text,
+        first,
+        e.to,
+        Place::Elsewhere,
+        inner,
+        index,
+        table,
+        out,
+    )
 }
 
 // The section from the line after a heading line, or from the text's start, up to the next heading line; none where all of it is blank.
@@ -245,11 +253,7 @@ pub fn read_section(
     if to <= at {
         return sink;
     }
-    let scope = Scope {
-        end: to,
-        place: first_place(place, from < at),
-        ends: true,
-    };
+    let here = first_place(place, from < at);
     let index = sink.count;
     let r = Record {
         kind: kind::SECTION,
@@ -261,5 +265,5 @@ pub fn read_section(
         detail: 0,
     };
     let out = emit(table, sink, r, 0);
-    read_elements(text, at, scope, 0, index, table, out)
+    read_elements(text, at, to, here, 0, index, table, out)
 }

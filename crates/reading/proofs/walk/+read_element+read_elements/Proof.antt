@@ -5,14 +5,12 @@
 use mathlib.Core.Path.{_≡_, refl, sym, ap, _∙_}
 use mathlib.Core.Logic.{inl, inr}
 use mathlib.Core.Bool.{true≢false}
-use mathlib.Core.List.{List}
 use Prim.Native.Nat.{ℕ, _+_, _-_, _*_, _≤_, _<_}
 use native.Mathlib.Omega.{arith}
 use lib.ListN.{length}
 use lib.Dec.{eqb}
 use Rattle.text.proofs.Laws.LinesIn.{firstLine-from, firstLine-to}
 use Rattle.rules.specs.Kind
-use Rattle.reading.specs.declared.walk.Step.{Step}
 use Rattle.rules.proofs.Laws.Kind.{counts-elements, isHolder-no}
 use Rattle.reading.specs.Walk.{state, absorbed, entriesFrom, elementsTo, linesTo, Range, StepAt}
 use Rattle.table.proofs.Basics.{on}
@@ -40,7 +38,7 @@ abbrev μ-read-element : Measures 2 read-element-kinds.ps ℕ
 μ-read-element κs a = 2 * (a .1 .1 .0 - a .1 .0)
 
 abbrev μ-read-elements : Measures 2 read-elements-kinds.ps ℕ
-μ-read-elements κs a = 2 * (a .1 .1 .0 .end - a .1 .0) + 1
+μ-read-elements κs a = 2 * (a .1 .1 .0 - a .1 .0) + 1
 
 abbrev read-element-at : ℕ → In 2 read-element-kinds.ps
 read-element-at t =
@@ -171,18 +169,15 @@ element-returns-4 t c =
 
 -- ---- a run of elements
 
-step-rest : (s : List ℕ) (p e : ℕ) (r : Step) → StepAt s p e r → Range s (r .end) e
-step-rest s p e r h = rw (h .end) at (h .rest .range)
-
 abbrev Inv-loop : read-elements-lts.InvT-loop
-Inv-loop text from depth parent table₀ to at₀ out₀ step₀ table at out step =
+Inv-loop text from to depth parent table₀ at₀ out₀ step₀ table at out step =
     (from ≤ at) × (at < to) × Range text at to × StepAt text at to step
     × (out .count + 2 * from ≤ out₀ .count + 2 * at) × (length table ≡ length table₀)
     × (absorbed (state table out) (entriesFrom text (elementsTo to) parent depth at (out .count))
     ≡ absorbed (state table₀ out₀) (entriesFrom text (elementsTo to) parent depth from (out₀ .count)))
 
 abbrev μ-loop : read-elements-lts.MeasureT-loop
-μ-loop text from depth parent table₀ to at₀ out₀ step₀ table at out step = to - at
+μ-loop text from to depth parent table₀ at₀ out₀ step₀ table at out step = to - at
 
 none : (t : ℕ) → read-elements-lts.Need-returns (elements-calls t) (read-elements-at t) read-elements.Post Inv-loop μ-loop
 unfolding absorbed
@@ -202,7 +197,7 @@ read-element-requires t c κs =
     let loop = c .before .loop in
     let pre = c .before .before .before .before .before .before .pre in
     let lies = loop .inv .3 .lies in
-    let rest = step-rest _ _ _ _ (loop .inv .3) in
+    let rest = loop .inv .3 .rest .range in
     let count = loop .inv .4 in
     (omega arith, (lies, pre .1 .1, pre .1 .2, omega arith))
 
@@ -211,7 +206,7 @@ unfolding absorbed
 last t c =
     let at-element = c .before .before .before .before in
     let inv = at-element .before .before .loop .inv in
-    let rest = step-rest _ _ _ _ (inv .3) in (
+    let rest = inv .3 .rest .range in (
       sym (ap (absorbed (state _ _)) (entriesFrom-none _ _ _ _ _ _ (c .if2 .taken)))
           ∙ element-turn _ _ _ (inv .2) (inv .1) _ (inv .3 .here) _ (inv .3 .next) _ _ _ _ (at-element .read-element .ensures .0) ∙ inv .6,
       omega arith,
@@ -220,7 +215,7 @@ last t c =
 next-requires : (t : ℕ) → read-elements-lts.Need-next-element-requires-2 (elements-calls t) (read-elements-at t) read-elements.Post Inv-loop μ-loop
 next-requires t c κs =
     let step = c .before .before .before .before .before .before .loop .inv .3 in
-    (step .rest, rw (step .end) (c .if2 .left))
+    (step .rest, c .if2 .left)
 
 less : (t : ℕ) → read-elements-lts.Need-loop-less (elements-calls t) (read-elements-at t) read-elements.Post Inv-loop μ-loop
 less t c =
@@ -235,8 +230,8 @@ again t c =
     let lies = inv .3 .lies in (
       omega arith,
       c .before .if2 .left,
-      step-rest _ _ _ _ (inv .3),
-      rw (inv .3 .end) at (c .next-element2 .ensures),
+      inv .3 .rest .range,
+      c .next-element2 .ensures,
       omega arith,
       at-element .read-element .kept .1 .1 .1 .1 .1 .1 .0 ∙ inv .5,
       element-turn _ _ _ (inv .2) (inv .1) _ (inv .3 .here) _ (inv .3 .next) _ _ _ _ (at-element .read-element .ensures .0) ∙ inv .6,
@@ -257,7 +252,7 @@ pub +read-element+read-elements-spec : {M : Type 1} → statement M
     (element-returns-3 t)
     (λ c κs. omega arith)
     (element-elements-requires t)
-    (λ c. c .before .before .read-elements .kept .1 .1 .1 .1 .1 .0 ∙ c .before .before .before .before .before .before .before .before .before .before .before .emit .kept .0)
+    (λ c. c .before .before .read-elements .kept .1 .1 .1 .1 .1 .1 .0 ∙ c .before .before .before .before .before .before .before .before .before .before .before .emit .kept .0)
     (element-returns-4 t))
     λ t. read-elements-lts.spec (elements-calls t) (read-elements-at t) read-elements.Post Inv-loop μ-loop
     (none t)

@@ -1,9 +1,10 @@
 -- `reading::walk::next_element` meets its contract: the element at the line is the one that the rules give, it lies in the range, and what is after it
 -- is a range too. From Ranges.
 -- Assumes nothing.
-use mathlib.Core.Path.{_≡_, refl, sym, _∙_}
+use mathlib.Core.Path.{_≡_, sym, _∙_}
 use borrow.Author.Needs.{needs}
 use Rattle.rules.specs.Findings.{InScope}
+use Rattle.reading.specs.Walk.{scopeOf}
 use Rattle.rules.proofs.Laws.LineOf.{lineOf, lineSpan-start, lineSpan-end}
 use Rattle.reading.proofs.Laws.Ranges.{firstElement, element-is, element-end, element-in, range-rest, range-place, no-end-rest}
 use Rattle.reading.proofs.walk.next_element.Statement.{statement}
@@ -11,13 +12,13 @@ use Rattle.reading.proofs.walk.next_element.Tie as tie
 
 here : (c : tie.After-element-at) →
     let a = c .before .before .before .args in
-    c .element-at .result ≡ firstElement (a .text .now) (a .at) (a .scope .end)
+    c .element-at .result ≡ firstElement (a .text .now) (a .at) (a .to)
 here c =
     let pre = c .before .before .before .pre in
     element-is _ _ _ _ _ _ (c .before .line-at .ensures) (pre .0 .place (pre .1)) (c .element-at .ensures)
 
 -- the line at `at` is one of the scope
-line : (c : tie.After-line-at) → let a = c .before .before .args in InScope (a .text .now) (c .line-at .result) (a .scope)
+line : (c : tie.After-line-at) → let a = c .before .before .args in InScope (a .text .now) (c .line-at .result) (scopeOf (a .to) (a .place) (a .ends))
 line c =
     let pre = c .before .before .pre in
     let is = c .line-at .ensures in
@@ -41,7 +42,6 @@ returns c =
       here = is;
       next = next;
       lies = element-in _ _ _ range some _ is _ next;
-      end = refl;
       rest = record {
         range = range-rest _ _ _ range some _ is _ next;
         place = λ h. c .before .next-place .ensures ∙ rw (known .place some) (sym (range-place _ _ _ range some _ is _ next));
