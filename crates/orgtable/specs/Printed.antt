@@ -29,13 +29,13 @@ digitsUpTo (suc k) n = elim (ltb n 10) [ true ↦ digit n ∷ [] | false ↦ dig
 unfoldable pub decimal : ℕ → List ℕ
 decimal n = digitsUpTo n n
 
--- Numbers on a line, a space between two, byte 10 at the end: `1 0 35 0 35 0 0`.
+-- Numbers on a line, a space between two, byte 10 at the end: `1 0 35 0 35 0 0 0`.
 unfoldable pub line : List ℕ → List ℕ
 line [] = newline ∷ []
 line (n ∷ []) = decimal n ++ newline ∷ []
 line (n ∷ m ∷ ns) = decimal n ++ space ∷ line (m ∷ ns)
 
--- The first n records of a table, a line each. A record is seven numbers  [01 "A record"].
+-- The first n records of a table, a line each. A record is eight numbers  [02 order 7].
 unfoldable pub recordLines : ℕ → List ℕ → List ℕ
 recordLines zero t = []
 recordLines (suc n) t = line (take recordSize t) ++ recordLines n (drop recordSize t)
@@ -61,7 +61,7 @@ shown TooLong = 0
 shown TooDeep = 0
 shown (NoRoom n) = 0
 
--- a number of a table has at most ten digits, and a byte follows it; a record's line has seven of these
+-- a number of a table has at most ten digits, and a byte follows it; a record's line has eight of these
 abbrev pub cellSize : ℕ
 cellSize = 11
 

@@ -36,17 +36,17 @@ unfoldable pub samples : List Case
 samples =
     order bytes 35
     ∷ order reads
-    (rec 1 0 35 0 35 0 0
-    ∷ rec 2 0 35 4 35 0 1
-    ∷ rec 3 4 35 4 35 1 0
-    ∷ rec 5 4 32 17 25 2 0
-    ∷ rec 6 17 25 23 24 3 0
-    ∷ rec 16 32 35 32 35 2 0
+    (rec 1 0 35 0 35 0 0 0
+    ∷ rec 2 0 35 4 35 0 1 0
+    ∷ rec 3 4 35 4 35 1 0 1
+    ∷ rec 5 4 32 17 25 2 0 1
+    ∷ rec 6 17 25 23 24 3 0 2
+    ∷ rec 16 32 35 32 35 2 0 5
     ∷ [])
     ∷ order room 6 answers 0 with 6
     ∷ order room 5 answers 3 with 6
     ∷ order room 6 prints
-    "1 0 35 0 35 0 0\n2 0 35 4 35 0 1\n3 4 35 4 35 1 0\n5 4 32 17 25 2 0\n6 17 25 23 24 3 0\n16 32 35 32 35 2 0\n"
+    "1 0 35 0 35 0 0 0\n2 0 35 4 35 0 1 0\n3 4 35 4 35 1 0 1\n5 4 32 17 25 2 0 1\n6 17 25 23 24 3 0 2\n16 32 35 32 35 2 0 5\n"
     ∷ order at 0 key "vin" answers 0 from 23 to 24
     ∷ 1 returning 0 refuses "refused 1\n"
     ∷ 2 returning 0 refuses "refused 2\n"
@@ -56,8 +56,8 @@ samples =
     ∷ drawerApart at 0 key "vin" answers 5 from 0 to 0
     ∷ "#+begin_src\n* A\n#+end_src\n" bytes 26
     ∷ "#+begin_src\n* A\n#+end_src\n" kinds (1 ∷ 3 ∷ 16 ∷ 2 ∷ 3 ∷ 16 ∷ [])
-    ∷ "" reads (rec 1 0 0 0 0 0 0 ∷ [])
-    ∷ "" room 1 prints "1 0 0 0 0 0 0\n"
+    ∷ "" reads (rec 1 0 0 0 0 0 0 0 ∷ [])
+    ∷ "" room 1 prints "1 0 0 0 0 0 0 0\n"
     ∷ "*" kinds (1 ∷ 3 ∷ 16 ∷ [])
     ∷ "* " kinds (1 ∷ 2 ∷ [])
     ∷ "----" kinds (1 ∷ 3 ∷ 16 ∷ [])

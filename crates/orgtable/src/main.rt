@@ -1,4 +1,4 @@
-// Reads standard input and prints its table, a line of seven numbers a record, or the refusal.
+// Reads standard input and prints its table, a line of eight numbers a record, or the refusal.
 
 mod input;
 mod output;

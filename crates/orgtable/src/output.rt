@@ -63,7 +63,7 @@ fn put_cell(out: &mut [u8], used: usize, n: u32, after: u8) -> usize
     put(out, end, after)
 }
 
-// The line of a record, whose seven numbers stand at an index: at most 77 bytes.
+// The line of a record, whose eight numbers stand at an index: at most 88 bytes.
 fn put_line(out: &mut [u8], used: usize, table: &[u32], at: usize) -> usize
     requires { ⌜ (used + lineSize ≤ length (now out)) × (at + recordSize ≤ length (now table)) ⌝ }
     ensures { λ r. ⌜ take r (now (out .exit)) ≡ take used (now (out .entry)) ++ line (slice at (at + recordSize) (now (table .entry))) ⌝ }
@@ -71,7 +71,7 @@ fn put_line(out: &mut [u8], used: usize, table: &[u32], at: usize) -> usize
 {
     let mut end = used;
     let mut i = at;
-    while i < at + record::DETAIL {
+    while i < at + record::LINE {
         end = put_cell(out, end, table[i], b' ');
         i += 1;
     }

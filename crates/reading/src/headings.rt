@@ -2,6 +2,7 @@ ghost use mathlib.Core.Path.{_≡_};
 ghost use Prim.Native.Nat.{_+_, _*_, _≤_, _<_};
 ghost use lib.ListN.{length};
 ghost use Rattle.text.specs.Limits.{textLimit};
+ghost use Rattle.text.specs.LineNumbers.{lineNumber};
 ghost use Rattle.text.specs.Parts.{nextLine};
 ghost use Rattle.rules.specs.Headings.{isHeading};
 ghost use Rattle.reading.specs.Walk.{state, Takes, openingEntries, headingEntry, headingsFrom, readingEntries, Small, HeadingLine, HeadingOrEnd, far};
@@ -52,8 +53,9 @@ fn heading_record(
     next: usize,
     stars: usize,
     last: usize,
+    number: usize,
 ) -> Record
-    requires { ⌜ HeadingLine (now text) at inner next stars × (last ≤ far) ⌝ }
+    requires { ⌜ HeadingLine (now text) at inner next stars × (last ≤ far) × (number ≡ lineNumber (now text) at) ⌝ }
     ensures { λ r. ⌜ r ≡ headingRecord (now (text .entry)) (parentIn (now (table .entry)) last stars) at ⌝ }
     ensures { λ r. ⌜ Small r ⌝ }
 {
@@ -66,6 +68,7 @@ fn heading_record(
         to: end,
         parent: find_parent(table, last, stars),
         detail: stars,
+        line: number,
     }
 }
 
@@ -81,19 +84,28 @@ fn unwritten() -> Record
         to: 0,
         parent: 0,
         detail: 0,
+        line: 0,
     }
 }
 
-// Where the next heading line starts, or the text's end, and the sink there.
+// Where the next heading line starts, or the text's end, and the sink and the line number there.
 pub struct Turn {
     pub next: usize,
     pub sink: Sink,
+    pub line: usize,
 }
 
 // The heading at a heading line and its section. `last` is the heading before it.
-pub fn read_heading(text: &[u8], at: usize, last: usize, table: &mut [u32], sink: Sink) -> Turn
-    requires { ⌜ HeadingOrEnd (now text) at × (at < length (now text)) × (last ≤ far) × (sink .count ≤ 2 * at + 2) ⌝ }
-    ensures { λ r. ⌜ (at < r .next) × (r .next ≡ nextLine isHeading (now (text .entry)) (at + length (lineAt (now (text .entry)) at))) × (r .sink .count ≤ 2 * r .next + 2) ⌝ }
+pub fn read_heading(
+    text: &[u8],
+    at: usize,
+    number: usize,
+    last: usize,
+    table: &mut [u32],
+    sink: Sink,
+) -> Turn
+    requires { ⌜ HeadingOrEnd (now text) at × (at < length (now text)) × (last ≤ far) × (sink .count ≤ 2 * at + 2) × (number ≡ lineNumber (now text) at) ⌝ }
+    ensures { λ r. ⌜ (at < r .next) × (r .next ≡ nextLine isHeading (now (text .entry)) (at + length (lineAt (now (text .entry)) at))) × (r .sink .count ≤ 2 * r .next + 2) × (r .next < length (now (text .entry)) → r .line ≡ lineNumber (now (text .entry)) (r .next)) ⌝ }
     ensures { λ r. ⌜ ((hs : Earlier) → last ≡ lastIndex hs → Tracked (state (now (table .entry)) sink) hs → Takes (now (table .entry)) sink (headingEntry (now (text .entry)) hs at (sink .count)) (now (table .exit)) (r .sink)) ⌝ }
 {
     let end = text.len();
@@ -102,30 +114,51 @@ pub fn read_heading(text: &[u8], at: usize, last: usize, table: &mut [u32], sink
     let next = next_heading(text, inner, end);
     let index = sink.count;
     let r = if sink.writing {
-        heading_record(text, table, at, inner, next, stars, last)
+        heading_record(text, table, at, inner, next, stars, last, number)
     } else {
         unwritten()
     };
     let out = emit(table, sink, r, 0);
+    let section = read_section(
+        text,
+        inner,
+        next,
+        Place::AfterHeading,
+        number + 1,
+        index,
+        table,
+        out,
+    );
+    let after = section.sink;
     Turn {
         next: next,
-        sink: read_section(text, inner, next, Place::AfterHeading, index, table, out),
+        sink: after,
+        line: section.line,
     }
 }
 
 // The headings from a heading line on. `before` is the heading before them.
-pub fn read_headings(text: &[u8], from: usize, before: usize, table: &mut [u32], sink: Sink) -> Sink
-    requires { ⌜ HeadingOrEnd (now text) from × (before ≤ far) × (sink .count ≤ 2 * from + 2) ⌝ }
+pub fn read_headings(
+    text: &[u8],
+    from: usize,
+    number: usize,
+    before: usize,
+    table: &mut [u32],
+    sink: Sink,
+) -> Sink
+    requires { ⌜ HeadingOrEnd (now text) from × (before ≤ far) × (sink .count ≤ 2 * from + 2) × (from < length (now text) → number ≡ lineNumber (now text) from) ⌝ }
     ensures { λ r. ⌜ ((hs : Earlier) → before ≡ lastIndex hs → Tracked (state (now (table .entry)) sink) hs → Takes (now (table .entry)) sink (headingsFrom (now (text .entry)) hs from (sink .count)) (now (table .exit)) r) ⌝ }
 {
     let end = text.len();
     let mut at = from;
+    let mut n = number;
     let mut last = before;
     let mut out = sink;
     while at < end {
         let index = out.count;
-        let turn = read_heading(text, at, last, table, out);
+        let turn = read_heading(text, at, n, last, table, out);
         out = turn.sink;
+        n = turn.line;
         last = index;
         at = turn.next;
     }
@@ -135,7 +168,7 @@ pub fn read_headings(text: &[u8], from: usize, before: usize, table: &mut [u32],
 // The document and the zeroth section.
 pub fn read_opening(text: &[u8], table: &mut [u32], sink: Sink) -> Turn
     requires { ⌜ (length (now text) ≤ textLimit) × (sink .count ≡ 0) ⌝ }
-    ensures { λ r. ⌜ (r .next ≡ nextLine isHeading (now (text .entry)) 0) × (r .sink .count ≤ 2 * r .next + 2) ⌝ }
+    ensures { λ r. ⌜ (r .next ≡ nextLine isHeading (now (text .entry)) 0) × (r .sink .count ≤ 2 * r .next + 2) × (r .next < length (now (text .entry)) → r .line ≡ lineNumber (now (text .entry)) (r .next)) ⌝ }
     ensures { λ r. ⌜ Takes (now (table .entry)) sink (openingEntries (now (text .entry))) (now (table .exit)) (r .sink) ⌝ }
 {
     let end = text.len();
@@ -147,12 +180,16 @@ pub fn read_opening(text: &[u8], table: &mut [u32], sink: Sink) -> Turn
         to: end,
         parent: 0,
         detail: 0,
+        line: 0,
     };
     let out = emit(table, sink, r, 0);
     let first = next_heading(text, 0, end);
+    let section = read_section(text, 0, first, Place::Opening, 0, 0, table, out);
+    let after = section.sink;
     Turn {
         next: first,
-        sink: read_section(text, 0, first, Place::Opening, 0, table, out),
+        sink: after,
+        line: section.line,
     }
 }
 
@@ -162,5 +199,5 @@ pub fn walk(text: &[u8], table: &mut [u32], sink: Sink) -> Sink
     ensures { λ r. ⌜ Takes (now (table .entry)) sink (readingEntries (now (text .entry))) (now (table .exit)) r ⌝ }
 {
     let turn = read_opening(text, table, sink);
-    read_headings(text, turn.next, 0, table, turn.sink)
+    read_headings(text, turn.next, turn.line, 0, table, turn.sink)
 }

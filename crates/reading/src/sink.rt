@@ -17,7 +17,7 @@ pub struct Sink {
     pub stopped: bool,
 }
 
-// A record's seven numbers, written from an index on.
+// A record's numbers, written from an index on.
 fn put(table: &mut [u32], at: usize, r: Record)
     requires { ⌜ (at + recordSize ≤ length (now table)) × Small r ⌝ }
     ensures { λ u. ⌜ now (table .exit) ≡ sets (now (table .entry)) at (numbersOf r) ⌝ }
@@ -29,6 +29,7 @@ fn put(table: &mut [u32], at: usize, r: Record)
     table[at + 4] = r.to as u32;
     table[at + record::PARENT] = r.parent as u32;
     table[at + record::DETAIL] = r.detail as u32;
+    table[at + record::LINE] = r.line as u32;
 }
 
 // One record more, of a depth. A depth of 33 stops the sink, and so does a record that has no room in the writing mode.

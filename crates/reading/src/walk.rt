@@ -3,6 +3,7 @@ ghost use mathlib.Core.Bool.{true, false};
 ghost use Prim.Native.Nat.{_+_, _*_, _≤_, _<_};
 ghost use lib.ListN.{length};
 ghost use Rattle.text.specs.Limits.{depthLimit, textLimit};
+ghost use Rattle.text.specs.LineNumbers.{lineNumber};
 ghost use Rattle.text.specs.Parts.{linesIn, nextLine, LineStart};
 ghost use Rattle.rules.specs.Headings.{isHeading};
 ghost use Rattle.rules.specs.Places.{placeAt};
@@ -10,7 +11,7 @@ ghost use Rattle.rules.specs.Findings.{LineOf, InScope, NoEnd};
 ghost use Rattle.table.specs.Makers.{childRecord};
 ghost use Rattle.table.specs.Nesting.{depthIn};
 ghost use Rattle.reading.specs.Walk.{Takes, entriesFrom, elementsTo, linesTo, sectionOf, sectionEntries, far};
-ghost use Rattle.reading.specs.Walk.{scopeOf, RangeIn, ElementIn, StepAt, recordOf, withHeld};
+ghost use Rattle.reading.specs.Walk.{scopeOf, innerLine, RangeIn, ElementIn, StepAt, recordOf, withHeld};
 use crate::sink::Sink;
 use crate::sink::emit;
 use rules::closer::may_end;
@@ -31,8 +32,15 @@ use text::marks::word_end;
 use text::word::begins_with;
 
 // The record of a node property line, or of a row.
-fn line_record(text: &[u8], line: LineSpan, to: usize, rows: bool, parent: usize) -> Record
-    requires { ⌜ LineOf (now text) line to ⌝ }
+fn line_record(
+    text: &[u8],
+    line: LineSpan,
+    to: usize,
+    rows: bool,
+    parent: usize,
+    number: usize,
+) -> Record
+    requires { ⌜ LineOf (now text) line to × (number ≡ lineNumber (now text) (line .start)) ⌝ }
     ensures { λ r. ⌜ r ≡ childRecord (now (text .entry)) (linesTo rows to) parent (line .start) ⌝ }
 {
     if rows {
@@ -49,6 +57,7 @@ fn line_record(text: &[u8], line: LineSpan, to: usize, rows: bool, parent: usize
             to: line.to,
             parent: parent,
             detail: detail,
+            line: number,
         };
     }
     let marker = word_end(text, line.from, line.to);
@@ -60,6 +69,7 @@ fn line_record(text: &[u8], line: LineSpan, to: usize, rows: bool, parent: usize
         to: line.to,
         parent: parent,
         detail: 0,
+        line: number,
     }
 }
 
@@ -70,13 +80,14 @@ fn read_lines(
     to: usize,
     rows: bool,
     lines: usize,
+    number: usize,
     depth: usize,
     parent: usize,
     table: &mut [u32],
     sink: Sink,
 ) -> Sink
     requires { ⌜ (from ≤ to) × (to ≤ length (now text)) × (to ≤ textLimit) × (parent ≤ far) × (sink .count ≤ 2 * from + 3) ⌝ }
-    requires { ⌜ (lines ≡ length (linesIn (now text) from to)) × (depth ≤ depthLimit) × (sink .stopped ≡ false) ⌝ }
+    requires { ⌜ (lines ≡ length (linesIn (now text) from to)) × (depth ≤ depthLimit) × (sink .stopped ≡ false) × (from < to → number ≡ lineNumber (now text) from) ⌝ }
     ensures { λ r. ⌜ Takes (now (table .entry)) sink (entriesFrom (now (text .entry)) (linesTo rows to) parent depth from (sink .count)) (now (table .exit)) r ⌝ }
     ensures { λ r. ⌜ r .count + from ≤ sink .count + to ⌝ }
 {
@@ -88,11 +99,14 @@ fn read_lines(
         };
     }
     let mut at = from;
+    let mut n = number;
     let mut out = sink;
     while at < to {
         let line = line_at(text, at, to);
-        out = emit(table, out, line_record(text, line, to, rows, parent), depth);
+        let r = line_record(text, line, to, rows, parent, n);
+        out = emit(table, out, r, depth);
         at = line.end;
+        n += 1;
     }
     out
 }
@@ -120,18 +134,19 @@ fn ends_after(text: &[u8], line: LineSpan, scope: Scope, kind: usize) -> bool
     may_end(text, line, scope)
 }
 
-// An element, where the next one starts, and what its scope says besides the end.
+// An element, where the next one starts, the line number there, and what its scope says besides the end.
 pub struct Step {
     pub e: Element,
     pub end: usize,
+    pub line: usize,
     pub place: Place,
     pub ends: bool,
 }
 
 // The element at a line of a range, and how to go on after it. The scope is taken apart here and in `read_elements`: as a struct it would cost
 // every level of nesting some 50 bytes of stack.
-fn next_element(text: &[u8], at: usize, to: usize, place: Place, ends: bool) -> Step
-    requires { ⌜ RangeIn (now text) at (scopeOf to place ends) × (at < to) ⌝ }
+fn next_element(text: &[u8], at: usize, to: usize, place: Place, ends: bool, number: usize) -> Step
+    requires { ⌜ RangeIn (now text) at (scopeOf to place ends) × (at < to) × (number ≡ lineNumber (now text) at) ⌝ }
     ensures { λ r. ⌜ StepAt (now (text .entry)) at to r ⌝ }
 {
     let scope = Scope {
@@ -141,13 +156,20 @@ fn next_element(text: &[u8], at: usize, to: usize, place: Place, ends: bool) -> 
     };
     let line = line_at(text, at, to);
     let e = element_at(text, line, scope);
-    let end = first_line(text, e.end, to);
+    let next = first_line(text, e.end, to);
     Step {
         e: e,
-        end: end,
-        place: next_place(place, e.kind, end == e.end),
+        end: next.at,
+        line: number + e.own + next.lines,
+        place: next_place(place, e.kind, next.at == e.end),
         ends: ends_after(text, line, scope, e.kind),
     }
+}
+
+// The sink, and the line number where what was read ends.
+pub struct Reached {
+    pub sink: Sink,
+    pub line: usize,
 }
 
 // The elements of a range, with all that they hold. Each is found by a call of its own, so that this function, which calls itself by way of
@@ -157,30 +179,48 @@ fn read_elements(
     from: usize,
     to: usize,
     place: Place,
+    number: usize,
     depth: usize,
     parent: usize,
     table: &mut [u32],
     sink: Sink,
-) -> Sink
-    requires { ⌜ RangeIn (now text) from (scopeOf to place true) × (depth ≤ depthLimit) × (parent ≤ far) × (sink .count ≤ 2 * from + 2) ⌝ }
-    ensures { λ r. ⌜ Takes (now (table .entry)) sink (entriesFrom (now (text .entry)) (elementsTo to) parent depth from (sink .count)) (now (table .exit)) r ⌝ }
-    ensures { λ r. ⌜ r .count + 2 * from ≤ sink .count + 2 * to ⌝ }
+) -> Reached
+    requires { ⌜ RangeIn (now text) from (scopeOf to place true) × (depth ≤ depthLimit) × (parent ≤ far) × (sink .count ≤ 2 * from + 2) × (from < to → number ≡ lineNumber (now text) from) ⌝ }
+    ensures { λ r. ⌜ Takes (now (table .entry)) sink (entriesFrom (now (text .entry)) (elementsTo to) parent depth from (sink .count)) (now (table .exit)) (r .sink) ⌝ }
+    ensures { λ r. ⌜ (r .sink .count + 2 * from ≤ sink .count + 2 * to) × (from < to → to < length (now (text .entry)) → r .line ≡ lineNumber (now (text .entry)) to) ⌝ }
 {
     if to <= from {
-        return sink;
+        return Reached {
+            sink: sink,
+            line: number,
+        };
     }
     let mut at = from;
+    let mut n = number;
     let mut out = sink;
-    let mut step = next_element(text, from, to, place, true);
+    let mut step = next_element(text, from, to, place, true, n);
     loop {
-        out = read_element(text, at, step.end, step.e, depth, parent, table, out);
+        out = read_element(text, at, step.end, step.e, n, depth, parent, table, out);
+        n = step.line;
         if to <= step.end {
-            return out;
+            return Reached { sink: out, line: n };
         }
         at = step.end;
         let here = step.place;
-        step = next_element(text, at, to, here, step.ends);
+        step = next_element(text, at, to, here, step.ends, n);
     }
+}
+
+// The line number of what stands first in an element at a line, after so many blank lines: a table's rows start with it, all else after its
+// first line.
+fn inner_line(number: usize, rows: bool, lines: usize) -> usize
+    requires { ⌜ (number ≤ far) × (lines ≤ far) ⌝ }
+    ensures { λ r. ⌜ r ≡ innerLine rows number lines ⌝ }
+{
+    if rows {
+        return number + lines;
+    }
+    number + 1 + lines
 }
 
 // One element from `at` to `end`, with all that it holds.
@@ -189,13 +229,14 @@ fn read_element(
     at: usize,
     end: usize,
     e: Element,
+    number: usize,
     depth: usize,
     parent: usize,
     table: &mut [u32],
     sink: Sink,
 ) -> Sink
-    requires { ⌜ ElementIn (now text) at end e × (depth ≤ depthLimit) × (parent ≤ far) × (sink .count ≤ 2 * at + 2) ⌝ }
-    ensures { λ r. ⌜ Takes (now (table .entry)) sink (withHeld (now (text .entry)) (recordOf at end e parent) (sink .count) depth) (now (table .exit)) r ⌝ }
+    requires { ⌜ ElementIn (now text) at end e × (depth ≤ depthLimit) × (parent ≤ far) × (sink .count ≤ 2 * at + 2) × (number ≡ lineNumber (now text) at) ⌝ }
+    ensures { λ r. ⌜ Takes (now (table .entry)) sink (withHeld (now (text .entry)) (recordOf (now (text .entry)) at end e parent) (sink .count) depth) (now (table .exit)) r ⌝ }
     ensures { λ r. ⌜ r .count + 2 * at ≤ sink .count + 2 * end ⌝ }
 {
     let index = sink.count;
@@ -209,6 +250,7 @@ fn read_element(
         to: e.to,
         parent: parent,
         detail: e.detail,
+        line: number,
     };
     let out = emit(table, sink, r, inner);
     if out.stopped {
@@ -217,22 +259,36 @@ fn read_element(
     let rows = kind == kind::TABLE;
     if rows || kind == kind::PROPERTY_DRAWER {
         let first = first_line(text, e.from, e.to);
-        return read_lines(text, first, e.to, rows, e.lines, inner, index, table, out);
+        let n = inner_line(number, rows, first.lines);
+        return read_lines(
+            text,
+            first.at,
+            e.to,
+            rows,
+            e.lines,
+            n,
+            inner,
+            index,
+            table,
+            out,
+        );
     }
     if inner <= depth {
         return out;
     }
     let first = first_line(text, e.from, e.to);
+    let n = inner_line(number, false, first.lines);
     read_elements(
         text,
-        first,
+        first.at,
         e.to,
         Place::Elsewhere,
+        n,
         inner,
         index,
         table,
         out,
-    )
+    ).sink
 }
 
 // The section from the line after a heading line, or from the text's start, up to the next heading line; none where all of it is blank.
@@ -241,17 +297,23 @@ pub fn read_section(
     from: usize,
     to: usize,
     place: Place,
+    number: usize,
     parent: usize,
     table: &mut [u32],
     sink: Sink,
-) -> Sink
-    requires { ⌜ (from ≤ length (now text)) × (length (now text) ≤ textLimit) × LineStart (now text) from × (to ≡ nextLine isHeading (now text) from) × (place ≡ placeAt (now text) from) × (parent ≤ far) × (sink .count ≤ 2 * from + 1) ⌝ }
-    ensures { λ r. ⌜ Takes (now (table .entry)) sink (sectionEntries (now (text .entry)) (sectionOf from) parent (sink .count)) (now (table .exit)) r ⌝ }
-    ensures { λ r. ⌜ r .count + 2 * from ≤ sink .count + 2 * to + 1 ⌝ }
+) -> Reached
+    requires { ⌜ (from ≤ length (now text)) × (length (now text) ≤ textLimit) × LineStart (now text) from × (to ≡ nextLine isHeading (now text) from) × (place ≡ placeAt (now text) from) × (parent ≤ far) × (sink .count ≤ 2 * from + 1) × (from < length (now text) → number ≡ lineNumber (now text) from) × (number ≤ far) ⌝ }
+    ensures { λ r. ⌜ Takes (now (table .entry)) sink (sectionEntries (now (text .entry)) (sectionOf from) parent (sink .count)) (now (table .exit)) (r .sink) ⌝ }
+    ensures { λ r. ⌜ (r .sink .count + 2 * from ≤ sink .count + 2 * to + 1) × (to < length (now (text .entry)) → r .line ≡ lineNumber (now (text .entry)) to) ⌝ }
 {
-    let at = first_line(text, from, to);
+    let first = first_line(text, from, to);
+    let at = first.at;
+    let n = number + first.lines;
     if to <= at {
-        return sink;
+        return Reached {
+            sink: sink,
+            line: n,
+        };
     }
     let here = first_place(place, from < at);
     let index = sink.count;
@@ -263,7 +325,8 @@ pub fn read_section(
         to: to,
         parent: parent,
         detail: 0,
+        line: n,
     };
     let out = emit(table, sink, r, 0);
-    read_elements(text, at, to, here, 0, index, table, out)
+    read_elements(text, at, to, here, n, 0, index, table, out)
 }

@@ -81,6 +81,7 @@ pub fn try_block(text: &[u8], line: LineSpan, scope: Scope) -> Rule
         return Rule::Holds(Element {
             kind: kind::VERBATIM_BLOCK,
             end: end,
+            own: n + 2,
             from: inner,
             to: close,
             detail: verbatim,
@@ -90,6 +91,7 @@ pub fn try_block(text: &[u8], line: LineSpan, scope: Scope) -> Rule
     Rule::Holds(Element {
         kind: kind::GREATER_BLOCK,
         end: end,
+        own: n + 2,
         from: inner,
         to: close,
         detail: greater_detail(text, name, name_end),

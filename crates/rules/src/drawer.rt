@@ -47,6 +47,7 @@ pub fn try_property_drawer(text: &[u8], line: LineSpan, scope: Scope) -> Rule
     Rule::Holds(Element {
         kind: kind::PROPERTY_DRAWER,
         end: end,
+        own: n + 2,
         from: inner,
         to: close,
         detail: 0,
@@ -88,6 +89,7 @@ pub fn try_drawer(text: &[u8], line: LineSpan, scope: Scope) -> Rule
     Rule::Holds(Element {
         kind: kind::DRAWER,
         end: end,
+        own: n + 2,
         from: inner,
         to: close,
         detail: 0,

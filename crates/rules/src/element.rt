@@ -1,13 +1,11 @@
 ghost use mathlib.Core.Path.{_≡_};
 ghost use mathlib.Core.Bool.{true, false};
 ghost use mathlib.Core.List.{[]};
-ghost use Prim.Native.Nat.{_+_, _≤_};
-ghost use lib.ListN.{length, take};
+ghost use Prim.Native.Nat.{_≤_};
+ghost use lib.ListN.{length};
 ghost use Rattle.text.specs.Bytes.{lower};
-ghost use Rattle.text.specs.Lines.{size};
-ghost use Rattle.text.specs.Parts.{linesIn};
-ghost use Rattle.rules.specs.Elements.{firstOf, rules3to9, rules1to9, paragraphLines};
-ghost use Rattle.rules.specs.Findings.{InScope, NoEnd, wanting, ruleOn, elementOn};
+ghost use Rattle.rules.specs.Elements.{firstOf, rules3to9, rules1to9};
+ghost use Rattle.rules.specs.Findings.{InScope, NoEnd, wanting, paragraphRun, ruleOn, elementOn};
 use crate::block::try_block;
 use crate::closer::may_end;
 use crate::drawer::try_drawer;
@@ -16,6 +14,7 @@ use crate::horizontal::try_horizontal_rule;
 use crate::keyword::try_keyword;
 use crate::kind;
 use crate::lines::LineClass;
+use crate::lines::LineRun;
 use crate::lines::try_run;
 use crate::lines::try_table;
 use crate::place::Place;
@@ -88,30 +87,32 @@ fn starts_text(b: u8) -> bool
     is_name(b) && b != b'-'
 }
 
-// The end of the further lines of a paragraph: up to a blank line, the end, or a line where a rule holds.  [01 rule 10]
+// The further lines of a paragraph: up to a blank line, the end, or a line where a rule holds.  [01 rule 10]
 // The first byte after the indentation spares most lines the search for a rule.
-fn paragraph_end(text: &[u8], from: usize, scope: Scope) -> usize
+fn paragraph_lines(text: &[u8], from: usize, scope: Scope) -> LineRun
     requires { ⌜ (from ≤ scope .end) × (scope .end ≤ length (now text)) × (scope .ends ≡ false → NoEnd (now text) from (scope .end)) ⌝ }
-    ensures { λ r. ⌜ r ≡ from + size (take (paragraphLines (linesIn (now (text .entry)) from (scope .end))) (linesIn (now (text .entry)) from (scope .end))) ⌝ }
+    ensures { λ r. ⌜ r ≡ paragraphRun (now (text .entry)) from (scope .end) 0 ⌝ }
 {
     let to = scope.end;
     let mut at = from;
+    let mut n = 0;
     let mut still = scope.ends;
     while at < to {
         let body = run_end(text, at, to, Class::Indent);
         if to <= body {
-            return at;
+            return LineRun { end: at, lines: n };
         }
         let first = text[body];
         if first == 10 {
-            return at;
+            return LineRun { end: at, lines: n };
         }
         if starts_text(first) {
             at = line_end(text, body, to);
+            n += 1;
         } else {
             let line = line_at(text, at, to);
             if line.to <= line.from {
-                return at;
+                return LineRun { end: at, lines: n };
             }
             let here = Scope {
                 end: to,
@@ -119,13 +120,14 @@ fn paragraph_end(text: &[u8], from: usize, scope: Scope) -> usize
                 ends: still,
             };
             if let Rule::Holds(_) = find_rule(text, line, here) {
-                return at;
+                return LineRun { end: at, lines: n };
             }
             still = may_end(text, line, here);
             at = line.end;
+            n += 1;
         }
     }
-    at
+    LineRun { end: at, lines: n }
 }
 
 // The element at a line.
@@ -136,12 +138,13 @@ pub fn element_at(text: &[u8], line: LineSpan, scope: Scope) -> Element
     if let Rule::Holds(e) = find_rule(text, line, scope) {
         return e;
     }
-    let end = paragraph_end(text, line.end, scope);
+    let further = paragraph_lines(text, line.end, scope);
     Element {
         kind: kind::PARAGRAPH,
-        end: end,
+        end: further.end,
+        own: further.lines + 1,
         from: line.start,
-        to: end,
+        to: further.end,
         detail: 0,
         lines: 0,
     }

@@ -23,6 +23,7 @@ pub fn try_horizontal_rule(text: &[u8], line: LineSpan, scope: Scope) -> Rule
     Rule::Holds(Element {
         kind: kind::HORIZONTAL_RULE,
         end: line.end,
+        own: 1,
         from: line.from,
         to: line.to,
         detail: 0,

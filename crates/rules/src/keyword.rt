@@ -46,6 +46,7 @@ pub fn try_keyword(text: &[u8], line: LineSpan, scope: Scope) -> Rule
     Rule::Holds(Element {
         kind: kind::KEYWORD,
         end: line.end,
+        own: 1,
         from: run_end(text, marker, line.to, Class::Blank),
         to: line.to,
         detail: 0,

@@ -93,9 +93,11 @@ pub fn try_table(text: &[u8], line: LineSpan, scope: Scope) -> Rule
         return Rule::Fails;
     }
     let rows = lines_end(text, line.end, scope.end, LineClass::Row);
+    let formulas = lines_end(text, rows.end, scope.end, LineClass::Formula);
     Rule::Holds(Element {
         kind: kind::TABLE,
-        end: lines_end(text, rows.end, scope.end, LineClass::Formula).end,
+        end: formulas.end,
+        own: rows.lines + 1 + formulas.lines,
         from: line.start,
         to: rows.end,
         detail: 0,
@@ -111,12 +113,13 @@ pub fn try_run(text: &[u8], line: LineSpan, scope: Scope, class: LineClass, kind
     if !starts_line(text, line.from, scope.end, class) {
         return Rule::Fails;
     }
-    let end = lines_end(text, line.end, scope.end, class).end;
+    let run = lines_end(text, line.end, scope.end, class);
     Rule::Holds(Element {
         kind: kind,
-        end: end,
+        end: run.end,
+        own: run.lines + 1,
         from: line.start,
-        to: end,
+        to: run.end,
         detail: 0,
         lines: 0,
     })

@@ -36,6 +36,7 @@ pub fn try_planning(text: &[u8], line: LineSpan, scope: Scope) -> Rule
     Rule::Holds(Element {
         kind: kind::PLANNING,
         end: line.end,
+        own: 1,
         from: line.from,
         to: line.to,
         detail: 0,

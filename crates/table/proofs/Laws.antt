@@ -4,3 +4,4 @@ pub mod Makers
 pub mod Fits
 pub mod Proper
 pub mod Reading
+pub mod Lines

@@ -5,6 +5,7 @@ use Prim.Native.Nat.{ℕ, _+_}
 use lib.ListN.{length, take, drop}
 use lib.Dec.{eqb}
 use Rattle.text.specs.Lines.{Line, size, headLine, blanks}
+use Rattle.text.specs.LineNumbers.{lineNumber, OpenLineNumbers}
 use Rattle.text.specs.Parts.{linesIn, nextLine}
 use Rattle.rules.specs.Kind
 use Rattle.rules.specs.Headings.{isHeadingUpTo, stars}
@@ -17,7 +18,7 @@ use Rattle.table.specs.Sections.{lineAt, sectionStart, sectionEnd, rowDe
 -- Below, q is the parent's index, p the byte at which the record starts, and e its container's inner end.
 
 abbrev pub documentRecord : List ℕ → Record
-documentRecord s = record { kind = Kind.document; start = 0; end = length s; from = 0; to = length s; parent = 0; detail = 0 }
+documentRecord s = record { kind = Kind.document; start = 0; end = length s; from = 0; to = length s; parent = 0; detail = 0; line = 0 }
 
 -- It ends before the next heading line with as many stars or fewer, or at the text's end.
 unfoldable pub headingRecord : List ℕ → ℕ → ℕ → Record
@@ -25,14 +26,14 @@ headingRecord s q p =
     let l = lineAt s p in
     let i = p + length l in
     let e = nextLine (isHeadingUpTo (stars l)) s i in
-    record { kind = Kind.heading; start = p; end = e; from = i; to = e; parent = q; detail = stars l }
+    record { kind = Kind.heading; start = p; end = e; from = i; to = e; parent = q; detail = stars l; line = lineNumber s p }
 
 -- the section of the document or heading c
 unfoldable pub sectionRecord : List ℕ → Record → ℕ → Record
 sectionRecord s c q =
     let a = sectionStart s c in
     let e = sectionEnd s c in
-    record { kind = Kind.section; start = a; end = e; from = a; to = e; parent = q; detail = 0 }
+    record { kind = Kind.section; start = a; end = e; from = a; to = e; parent = q; detail = 0; line = lineNumber s a }
 
 -- Blank lines after an element, before the end, are the element's.
 unfoldable pub elementRecord : List ℕ → ℕ → ℕ → ℕ → Record
@@ -49,6 +50,7 @@ elementRecord s e q p =
       to = innerTo (innerOf (f .kind)) p b ls n;
       parent = q;
       detail = f .detail;
+      line = lineNumber s p;
     }
 
 -- A node property or row spans its line.
@@ -64,6 +66,7 @@ lineRecord k d s e q p =
       to = innerTo (innerOf k) p b ls 1;
       parent = q;
       detail = d (headLine ls);
+      line = lineNumber s p;
     }
 
 -- what stands at byte p of a property drawer, a table, or a section, drawer or greater block
@@ -77,5 +80,5 @@ childRecord s c q p =
 
 -- opens the definitions of this file and of those it stands on, for computed examples
 unfoldable pub OpenMakers : Type 1
-unfolding OpenSpans OpenSections headingRecord sectionRecord elementRecord lineRecord childRecord
+unfolding OpenLineNumbers OpenSpans OpenSections headingRecord sectionRecord elementRecord lineRecord childRecord
 OpenMakers = Type 0

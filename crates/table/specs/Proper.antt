@@ -8,6 +8,7 @@ use Prim.Native.Nat.{ℕ, suc, _+_, _≤_, _<_}
 use lib.ListN.{length, take, drop}
 use lib.Dec.{T, eqb}
 use Rattle.text.specs.Lines.{Line, lines, size, headLine, blanks}
+use Rattle.text.specs.LineNumbers.{lineNumber}
 use Rattle.text.specs.Parts.{linesIn, firstLine, nextLine}
 use Rattle.rules.specs.Kind
 use Rattle.rules.specs.Kind.{holdsSections, holdsElements, isHolder, innerOf}
@@ -117,6 +118,8 @@ pub record Proper (s : List ℕ) (R : List Record) : Type 0 where
   pub document : Has (at R 0) Kind.document (length s) 0 (length s) 0
   pub documentStart : (at R 0) .start ≡ 0
   pub documentParent : (at R 0) .parent ≡ 0
+  -- A record's line number is how many bytes 10 stand before its start  [02 order 7].
+  pub lines : Each R (λ k. (at R k) .line ≡ lineNumber s ((at R k) .start))
   -- Every later record's parent is a record before it, and it is that one's child.
   pub earlier : EachLater R (λ k. (at R k) .parent < k)
   -- A record is followed at once by all that it holds: what stands between a record and its child is inside the record.

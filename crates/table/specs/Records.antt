@@ -4,29 +4,32 @@ use Prim.Native.Nat.{ℕ}
 use lib.ListN.{getD}
 use Rattle.table.specs.declared.record.Record.{Record}
 
--- Seven numbers: kind, start, end, inner start, inner end, parent's index, detail. Ends are one past.
-abbrev pub rec : ℕ → ℕ → ℕ → ℕ → ℕ → ℕ → ℕ → Record
-rec k a e i j q d = record { kind = k; start = a; end = e; from = i; to = j; parent = q; detail = d }
+-- Eight numbers: kind, start, end, inner start, inner end, parent's index, detail, line number  [02 order 7]. Ends are one past.
+abbrev pub rec : ℕ → ℕ → ℕ → ℕ → ℕ → ℕ → ℕ → ℕ → Record
+rec k a e i j q d n = record { kind = k; start = a; end = e; from = i; to = j; parent = q; detail = d; line = n }
 
 abbrev pub recordSize : ℕ
-recordSize = 7
+recordSize = 8
 
--- the places of a record's last two numbers among them
+-- the places of a record's last three numbers among them
 abbrev pub parentPlace : ℕ
 parentPlace = 5
 
 abbrev pub detailPlace : ℕ
 detailPlace = 6
 
+abbrev pub linePlace : ℕ
+linePlace = 7
+
 abbrev pub numbersOf : Record → List ℕ
-numbersOf r = r .kind ∷ r .start ∷ r .end ∷ r .from ∷ r .to ∷ r .parent ∷ r .detail ∷ []
+numbersOf r = r .kind ∷ r .start ∷ r .end ∷ r .from ∷ r .to ∷ r .parent ∷ r .detail ∷ r .line ∷ []
 
 unfoldable pub numbers : List Record → List ℕ
 numbers [] = []
 numbers (r ∷ R) = numbersOf r ++ numbers R
 
 abbrev pub noRecord : Record
-noRecord = rec 0 0 0 0 0 0 0
+noRecord = rec 0 0 0 0 0 0 0 0
 
 -- record k of a table, and the record that holds it
 abbrev pub at : List Record → ℕ → Record

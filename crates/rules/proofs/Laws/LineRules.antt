@@ -7,10 +7,11 @@ use mathlib.Core.Option.{Option, none, some, Option·map}
 use Prim.Native.Nat.{ℕ, suc, _+_, _≤_, _<_}
 use native.Mathlib.Omega.{arith}
 use lib.Dec.{eqb}
-use lib.ListN.{length, drop}
+use lib.ListN.{length, drop, length-drop}
 use borrow.Table.Steps.{cases}
 use Rattle.text.specs.Bytes.{lower}
 use Rattle.text.specs.Runs.{word, isEmpty, same}
+use Rattle.text.proofs.Laws.Lines.{leading-le}
 use Rattle.text.specs.Lines.{Line, body, headLine, tailLines, leading}
 use Rattle.rules.specs.Kind
 use Rattle.rules.specs.Names.{numberIn}
@@ -22,7 +23,8 @@ use Rattle.rules.specs.Elements.{Found, found, LineRule, rule, when, pla
 use Rattle.rules.specs.Elements.{verbatimNames, greaterDetail, blockOf, block, drawer, lineAnd, rowLines, table, comment, fixedWidth, horizontalRule, keyword}
 use Rattle.rules.specs.Elements.{rules3to9, rules1to9}
 use Rattle.rules.specs.Kind.{Inner, wholeSpan, afterLine, lineBody, linesBetween, propertyValue, keywordValue, rowsOnly, ownLines, innerOf}
-use Rattle.rules.specs.Findings.{isIn}
+use Rattle.rules.specs.declared.closer.Closer.the-variants.{At}
+use Rattle.rules.specs.Findings.{closerAt, isIn}
 use Rattle.rules.proofs.Basics.{or-no, All, all-nil, all-cons, all-map}
 use Rattle.rules.proofs.Laws.FirstByte.{firstAt, begins-other, same-other, isMarked-other, betweenColons-other, hyphens-other}
 
@@ -44,7 +46,7 @@ when-no b f h = rw (h, when)
 -- ---- closers
 
 -- a closer stands among n lines
-abbrev Below : ℕ → Option ℕ → Type 0
+abbrev pub Below : ℕ → Option ℕ → Type 0
 Below n = If (λ m. m < n)
 
 if-map : {A : Type 0} (P : A → Type 0) (n : ℕ) (g : ℕ → A) (o : Option ℕ) → Below n o → ((m : ℕ) → m < n → P (g m))
@@ -55,14 +57,14 @@ if-map P n g (some m) k h = h m k
 below-suc : (n : ℕ) (o : Option ℕ) → Below n o → Below (suc n) (Option·map suc o)
 below-suc n o k = if-map (λ m. m < suc n) n suc o k (λ m h. omega arith)
 
-linesBefore-below : (x : List ℕ) (ls : List Line) → Below (length ls) (linesBefore x ls)
+pub linesBefore-below : (x : List ℕ) (ls : List Line) → Below (length ls) (linesBefore x ls)
 unfolding linesBefore
 linesBefore-below x [] = tt
 linesBefore-below x (l ∷ ls) = cases (same (body l) x)
     (λ h. rw (h, linesBefore) (omega arith))
     (λ h. rw (h, linesBefore) (below-suc (length ls) (linesBefore x ls) (linesBefore-below x ls)))
 
-propertiesBefore-below : (ls : List Line) → Below (length ls) (propertiesBefore ls)
+pub propertiesBefore-below : (ls : List Line) → Below (length ls) (propertiesBefore ls)
 unfolding propertiesBefore
 propertiesBefore-below [] = tt
 propertiesBefore-below (l ∷ ls) = cases (isEndLine l)
@@ -70,6 +72,18 @@ propertiesBefore-below (l ∷ ls) = cases (isEndLine l)
     (λ h. cases (isNodeProperty l)
     (λ i. rw (h, i, propertiesBefore) (below-suc (length ls) (propertiesBefore ls) (propertiesBefore-below ls)))
     (λ i. rw (h, i, propertiesBefore) tt))
+
+-- so many lines stand before it
+pub closer-count : (p : ℕ) (ls : List Line) (o : Option ℕ) → Below (length ls) o → (a e n : ℕ) → At a e n ≡ closerAt p ls o → n < length ls
+unfolding closerAt
+closer-count p ls none k a e n h = absurd (let z : _≡_ {A = ℕ} 0 1 = cc in omega arith)
+closer-count p ls (some m) k a e n h = let i : n ≡ m = cc in omega arith
+
+-- the first line and those after it
+all-length : (ls : List Line) → length ls ≤ suc (length (tailLines ls))
+unfolding tailLines
+all-length [] = omega arith
+all-length (l ∷ ls) = omega arith
 
 tail-length : (ls : List Line) (n : ℕ) → n < length (tailLines ls) → n + 2 ≤ length ls
 unfolding tailLines
@@ -109,9 +123,10 @@ Closed keywordValue ls n = Unit {0}
 Closed rowsOnly ls n = Unit {0}
 Closed ownLines ls n = Unit {0}
 
--- of every rule: an element of kind 4 to the last, with as many lines as its inner span asks
+-- of every rule: an element of kind 4 to the last, with as many lines as its inner span asks, and no more than there are
 pub record Fine (ls : List Line) (f : Found) : Type 0 where
   pub own : 1 ≤ f .own
+  pub many : f .own ≤ suc (length (tailLines ls))
   pub low : Kind.planning ≤ f .kind
   pub high : f .kind ≤ Kind.lastKind
   pub detail : f .detail ≤ 5
@@ -208,8 +223,8 @@ module _ (ls : List Line) where
   blockOf-later : (name : List ℕ) (n : ℕ) → n + 2 ≤ length ls → Later ls (blockOf name (n + 2))
   unfolding blockOf innerOf verbatimNames
   blockOf-later name n h = cases (eqb (numberIn verbatimNames 1 name) 0)
-      (λ e. rw (e, blockOf) (record { fine = omega (arith, greaterDetail-le name); later = omega arith; comment = λ c. absurd (omega arith) }))
-      (λ e. rw (e, blockOf) (record { fine = omega (arith, numberIn-le verbatimNames 0 name); later = omega arith; comment = λ c. absurd (omega arith) }))
+      (λ e. rw (e, blockOf) (record { fine = omega (arith, all-length ls, greaterDetail-le name); later = omega arith; comment = λ c. absurd (omega arith) }))
+      (λ e. rw (e, blockOf) (record { fine = omega (arith, all-length ls, numberIn-le verbatimNames 0 name); later = omega arith; comment = λ c. absurd (omega arith) }))
 
   block-lawful : Lawful ls (rule (word "#") block)
   unfolding block blockName word isEmpty lower
@@ -230,17 +245,27 @@ module _ (ls : List Line) where
     other = λ h. rw (betweenColons-other x (one-other _ 58 h), drawer);
     found = cases (isDrawerLine (headLine ls))
         (λ e. rw (e, drawer) (if-lines (Later ls) ls (λ n. found Kind.drawer (n + 2) 0) (word ":end:")
-        (λ n h. record { fine = omega arith; later = omega arith; comment = λ c. absurd (omega arith) })))
+        (λ n h. record { fine = omega (arith, all-length ls); later = omega arith; comment = λ c. absurd (omega arith) })))
         (λ e. rw (e, drawer) tt);
   }
 
   -- rules 5 to 9
 
+  table-fine : Fine ls (found Kind.table (rowLines ls + leading isFormula (drop (rowLines ls) ls)) 0)
+  unfolding rowLines lineAnd innerOf
+  table-fine = omega (
+    arith,
+    all-length ls,
+    leading-le isRow (tailLines ls),
+    leading-le isFormula (drop (rowLines ls) ls),
+    length-drop (rowLines ls) ls,
+  )
+
   table-lawful : Lawful ls (rule (word "|") table)
   unfolding table isRow rowLines lineAnd word isEmpty lower innerOf
   table-lawful = record {
     other = λ h. when-no _ _ (begins-other (word "|") x refl (one-other _ 124 h));
-    found = when-found (isRow (headLine ls)) Kind.table (rowLines ls + leading isFormula (drop (rowLines ls) ls)) (omega arith) (omega arith)
+    found = when-found (isRow (headLine ls)) Kind.table (rowLines ls + leading isFormula (drop (rowLines ls) ls)) table-fine (omega arith)
         (λ e c. absurd (omega arith));
   }
 
@@ -248,14 +273,14 @@ module _ (ls : List Line) where
   unfolding comment isComment lineAnd word lower innerOf
   comment-lawful = record {
     other = λ h. when-no _ _ (isMarked-other 35 x (one-other _ 35 h));
-    found = when-found (isComment (headLine ls)) Kind.comment (lineAnd isComment ls) (omega arith) (omega arith) (λ e c. e);
+    found = when-found (isComment (headLine ls)) Kind.comment (lineAnd isComment ls) (omega (arith, leading-le isComment (tailLines ls))) (omega arith) (λ e c. e);
   }
 
   fixedWidth-lawful : Lawful ls (rule (word ":") fixedWidth)
   unfolding fixedWidth isFixedWidth lineAnd word lower innerOf
   fixedWidth-lawful = record {
     other = λ h. when-no _ _ (isMarked-other 58 x (one-other _ 58 h));
-    found = when-found (isFixedWidth (headLine ls)) Kind.fixedWidth (lineAnd isFixedWidth ls) (omega arith) (omega arith) (λ e c. absurd (omega arith));
+    found = when-found (isFixedWidth (headLine ls)) Kind.fixedWidth (lineAnd isFixedWidth ls) (omega (arith, leading-le isFixedWidth (tailLines ls))) (omega arith) (λ e c. absurd (omega arith));
   }
 
   horizontalRule-lawful : Lawful ls (rule (word "-") horizontalRule)
@@ -294,4 +319,4 @@ module _ (ls : List Line) where
 
   pub fine1to9 : (pl : Place) → All (λ r. If (Fine ls) (r .finds ls)) (rules1to9 pl)
   unfolding innerOf
-  fine1to9 pl = all1to9 _ pl (planning-fine pl) (if-properties pl _ (λ n h. omega arith)) (λ r. lawful-found (Fine ls) ls r (λ f h. h .fine))
+  fine1to9 pl = all1to9 _ pl (planning-fine pl) (if-properties pl _ (λ n h. omega (arith, all-length ls))) (λ r. lawful-found (Fine ls) ls r (λ f h. h .fine))

@@ -28,7 +28,7 @@ use Rattle.table.proofs.Basics.{on}
 
 module _ (s : List ℕ) (c : Record) (q p : ℕ) where
   -- what holds of a node property, of a row and of an element
-  childRecord-each : (P : Record → Type 0)
+  pub childRecord-each : (P : Record → Type 0)
       → P (lineRecord Kind.nodeProperty (λ l. 0) s (c .to) q p)
       → P (lineRecord Kind.row rowDetail s (c .to) q p)
       → ((c .kind ≡ Kind.table → ⊥) → P (elementRecord s (c .to) q p))

@@ -6,6 +6,7 @@ use mathlib.Core.List.{List, [], _∷_, _++_}
 use Prim.Native.Nat.{ℕ, zero, suc, _+_, _-_, _≤_, _<_}
 use lib.ListN.{length}
 use borrow.Author.Tests.{lt-ltb, le-ltb}
+use Rattle.text.specs.LineNumbers.{lineNumber}
 use Rattle.text.specs.Parts.{firstLine, nextLine}
 use Rattle.rules.specs.Headings.{stars, isHeading, isHeadingUpTo}
 use Rattle.rules.specs.Kind
@@ -46,7 +47,9 @@ contents-step n s c q p k h = rw (lt-ltb p (c .to) h, contents)
 
 -- the record of the section of c, by its numbers
 abbrev pub sectionOf : List ℕ → Record → ℕ → Record
-sectionOf s c q = rec Kind.section (sectionStart s c) (sectionEnd s c) (sectionStart s c) (sectionEnd s c) q 0
+sectionOf s c q =
+    let a = sectionStart s c in
+    rec Kind.section a (sectionEnd s c) a (sectionEnd s c) q 0 (lineNumber s a)
 
 -- what the section of c, of index k, holds
 abbrev pub sectionContents : List ℕ → Record → ℕ → ℕ → List Record
@@ -95,7 +98,7 @@ abbrev pub headingAt : List ℕ → Earlier → ℕ → Record
 headingAt s hs p =
     let m = starsAt s p in
     let i = p + length (lineAt s p) in
-    rec Kind.heading p (nextUpTo s m i) i (nextUpTo s m i) (nearest m hs) m
+    rec Kind.heading p (nextUpTo s m i) i (nextUpTo s m i) (nearest m hs) m (lineNumber s p)
 
 abbrev pub groupAt : List ℕ → Earlier → ℕ → ℕ → List Record
 groupAt s hs p k = section s (headingAt s hs p) k (suc k)

@@ -16,7 +16,7 @@ use Rattle.text.specs.Lines.{Line}
 use Rattle.text.proofs.Laws.LinesIn.{nextLine-to, nextLine-none}
 use Rattle.rules.specs.Headings.{isHeading, isHeadingUpTo}
 use Rattle.rules.specs.Kind.{holdsSections, isHolder}
-use Rattle.rules.proofs.Basics.{all-map}
+use Rattle.rules.proofs.Basics.{all-getD, all-map}
 use Rattle.rules.proofs.Laws.Headings.{stars-some, upTo-no}
 use Rattle.table.specs.Makers.{documentRecord}
 use Rattle.table.specs.Proper.{withParent, children, headingLines, headingStarts, Each, EachLater, Proper}
@@ -24,6 +24,7 @@ use Rattle.table.specs.Reading.{section, nearest, headings, reading}
 use Rattle.table.specs.Records.{noRecord, at}
 use Rattle.table.specs.Sections.{sectionEnd}
 use Rattle.table.proofs.Basics.{split}
+use Rattle.table.proofs.Laws.Lines.{reading-lined}
 use Rattle.table.proofs.Laws.Proper.{withParent-no, headingStarts-append, headingStarts-none, headingLinesFrom-zero, headingLinesFrom-next}
 use Rattle.table.proofs.Proper.Headings.{AllReady, heads-local}
 use Rattle.table.proofs.Proper.Heads.{Heads, headings-heads, heads-starts, heads-outside}
@@ -125,12 +126,14 @@ module _ (s : List ℕ) where
       rw (headingStarts-append zeroth H, none, heads-starts heads, ← headingLinesFrom-next s 0) (headingLinesFrom-zero s)
 
   proper : Proper s R
+  unfolding reading
   proper =
       record {
         first = omega arith;
         document = record { kind = refl; end = refl; from = refl; to = refl; detail = refl };
         documentStart = refl;
         documentParent = refl;
+        lines = λ j b. all-getD noRecord (reading-lined s) j b;
         earlier = λ j a b. local j a b .earlier;
         together = each (λ i a b. absurd (omega arith)) (λ j a b. local j a b .together);
         headingsStand = headings-stand;

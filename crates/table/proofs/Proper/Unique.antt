@@ -10,6 +10,7 @@ use lib.ListN.{length, length-append, List·getD-append}
 use lib.Seq.{getD-append-seam, getD-append-add, append-snoc}
 use borrow.Table.Steps.{cases}
 use Rattle.text.specs.Lines.{Line}
+use Rattle.text.specs.LineNumbers.{lineNumber}
 use Rattle.text.specs.Parts.{firstLine}
 use Rattle.rules.specs.Elements.{element}
 use Rattle.rules.specs.Headings.{isHeading}
@@ -26,24 +27,24 @@ use Rattle.table.proofs.Laws.Proper.{withParent-append, withParent-yes,
 use Rattle.table.proofs.Proper.Stands.{Child}
 use Rattle.table.specs.declared.record.Record.{Record}
 
--- ---- a record is settled by its start, its parent and its container
+-- ---- a record is settled by its start, its parent, its line number and its container
 
 record-path : (r q : Record) → r .kind ≡ q .kind → r .start ≡ q .start → r .end ≡ q .end → r .from ≡ q .from → r .to ≡ q .to
-    → r .parent ≡ q .parent → r .detail ≡ q .detail → r ≡ q
-record-path r q a b c d e f g = λ i. record { kind = a i; start = b i; end = c i; from = d i; to = e i; parent = f i; detail = g i }
+    → r .parent ≡ q .parent → r .detail ≡ q .detail → r .line ≡ q .line → r ≡ q
+record-path r q a b c d e f g h = λ i. record { kind = a i; start = b i; end = c i; from = d i; to = e i; parent = f i; detail = g i; line = h i }
 
-module _ (r q : Record) (start : r .start ≡ q .start) (parent : r .parent ≡ q .parent) where
+module _ (r q : Record) (start : r .start ≡ q .start) (parent : r .parent ≡ q .parent) (line : r .line ≡ q .line) where
   has-only : {k e i j d : ℕ} → Has r k e i j d → Has q k e i j d → r ≡ q
-  has-only x y = record-path r q (cc) start (cc) (cc) (cc) parent (cc)
+  has-only x y = record-path r q (cc) start (cc) (cc) (cc) parent (cc) line
 
   module _ (s : List ℕ) (c : Record) where
     heading-only : IsHeadingRecord s r → IsHeadingRecord s q → r ≡ q
     unfolding IsHeadingRecord
-    heading-only x y = record-path r q (cc) start (cc) (cc) (cc) parent (cc)
+    heading-only x y = record-path r q (cc) start (cc) (cc) (cc) parent (cc) line
 
     section-only : IsSectionRecord s c r → IsSectionRecord s c q → r ≡ q
     unfolding IsSectionRecord
-    section-only x y = record-path r q (cc) start (cc) (cc) (cc) parent (cc)
+    section-only x y = record-path r q (cc) start (cc) (cc) (cc) parent (cc) line
 
     top-only : IsTopRecord s c r → IsTopRecord s c q → r ≡ q
     unfolding IsTopRecord
@@ -55,11 +56,11 @@ module _ (r q : Record) (start : r .start ≡ q .start) (parent : r .parent ≡ 
 
     element-only : IsElementRecord s (c .to) r → IsElementRecord s (c .to) q → r ≡ q
     unfolding IsElementRecord
-    element-only x y = record-path r q (cc) start (cc) (cc) (cc) parent (cc)
+    element-only x y = record-path r q (cc) start (cc) (cc) (cc) parent (cc) line
 
     line-only : (k : ℕ) (d : Line → ℕ) → IsLineRecord s (c .to) k d r → IsLineRecord s (c .to) k d q → r ≡ q
     unfolding IsLineRecord
-    line-only k d x y = record-path r q (cc) start (cc) (cc) (cc) parent (cc)
+    line-only k d x y = record-path r q (cc) start (cc) (cc) (cc) parent (cc) line
 
     child-only : Child s c r → Child s c q → r ≡ q
     child-only x y = go (holder-holds (c .kind) (x .holder))
@@ -131,6 +132,9 @@ module _ (s : List ℕ) (c : Record) (P : List Record) where
     inside : k < length (whole (r ∷ X))
     inside = omega (arith, length-whole (r ∷ X))
 
+    line-old : r .line ≡ lineNumber s (r .start)
+    line-old = rw at-new at (h .lines k inside)
+
     parent-old : r .parent < k
     parent-old = rw at-new at (h .earlier k (omega arith) inside)
 
@@ -172,7 +176,8 @@ module _ (s : List ℕ) (c : Record) (P : List Record) where
   same-record r q X Y h g =
       let parent : r .parent ≡ q .parent = omega (arith, not-earlier r q X Y h g, not-earlier q r Y X g h) in
       let start : r .start ≡ q .start = start-old r X h ∙ ap from parent ∙ sym (start-old q Y g) in
-      child-only r q start parent s (old (r .parent)) (child-old r X h) (rw parent (child-old q Y g))
+      let line : r .line ≡ q .line = line-old r X h ∙ ap (lineNumber s) start ∙ sym (line-old q Y g) in
+      child-only r q start parent line s (old (r .parent)) (child-old r X h) (rw parent (child-old q Y g))
 
 -- the rest of two proper tables that agree so far
 same-rest : (s : List ℕ) (c : Record) (P X Y : List Record) → Proper s ((c ∷ P) ++ X) → Proper s ((c ∷ P) ++ Y) → X ≡ Y
@@ -193,5 +198,6 @@ unique s (c ∷ X) [] h g = absurd (omega (arith, g .first))
 unique s (c ∷ X) (d ∷ Y) h g =
     let start : c .start ≡ d .start = h .documentStart ∙ sym (g .documentStart) in
     let parent : c .parent ≡ d .parent = h .documentParent ∙ sym (g .documentParent) in
-    let e : c ≡ d = has-only c d start parent (h .document) (g .document) in
+    let line : c .line ≡ d .line = h .lines 0 (h .first) ∙ ap (lineNumber s) start ∙ sym (g .lines 0 (g .first)) in
+    let e : c ≡ d = has-only c d start parent line (h .document) (g .document) in
     λ i. e i ∷ same-rest s c [] X Y h (rw e g) i

@@ -8,20 +8,20 @@ use Rattle.table.specs.Cases.{_reads_, _kinds_, OpenTableCases}
 unfoldable pub blankCases : List Case
 blankCases =
     "#+begin_a\n\nx\n\n#+end_a\n\ny" reads
-    (rec 1 0 24 0 24 0 0
-    ∷ rec 3 0 24 0 24 0 0
-    ∷ rec 8 0 23 10 14 1 3
-    ∷ rec 16 11 14 11 13 2 0
-    ∷ rec 16 23 24 23 24 1 0
+    (rec 1 0 24 0 24 0 0 0
+    ∷ rec 3 0 24 0 24 0 0 0
+    ∷ rec 8 0 23 10 14 1 3 0
+    ∷ rec 16 11 14 11 13 2 0 2
+    ∷ rec 16 23 24 23 24 1 0 6
     ∷ [])
-    ∷ ":a:\n\n:END:\n" reads (rec 1 0 11 0 11 0 0 ∷ rec 3 0 11 0 11 0 0 ∷ rec 7 0 11 4 5 1 0 ∷ [])
+    ∷ ":a:\n\n:END:\n" reads (rec 1 0 11 0 11 0 0 0 ∷ rec 3 0 11 0 11 0 0 0 ∷ rec 7 0 11 4 5 1 0 0 ∷ [])
     ∷ "# a\n\n: b\n\n-----\n\n#+k: v\n\n" reads
-    (rec 1 0 25 0 25 0 0
-    ∷ rec 3 0 25 0 25 0 0
-    ∷ rec 12 0 5 0 4 1 0
-    ∷ rec 13 5 10 5 9 1 0
-    ∷ rec 14 10 17 10 15 1 0
-    ∷ rec 15 17 25 22 23 1 0
+    (rec 1 0 25 0 25 0 0 0
+    ∷ rec 3 0 25 0 25 0 0 0
+    ∷ rec 12 0 5 0 4 1 0 0
+    ∷ rec 13 5 10 5 9 1 0 2
+    ∷ rec 14 10 17 10 15 1 0 4
+    ∷ rec 15 17 25 22 23 1 0 6
     ∷ [])
     ∷ []
 
@@ -29,34 +29,34 @@ blankCases =
 unfoldable pub heldCases : List Case
 heldCases =
     "* a\nCLOSED: x\n:PROPERTIES:\n :B+:  \n:C: y z\n:END:\n\n" reads
-    (rec 1 0 50 0 50 0 0
-    ∷ rec 2 0 50 4 50 0 1
-    ∷ rec 3 4 50 4 50 1 0
-    ∷ rec 4 4 14 4 13 2 0
-    ∷ rec 5 14 50 27 43 2 0
-    ∷ rec 6 27 35 32 32 4 0
-    ∷ rec 6 35 43 39 42 4 0
+    (rec 1 0 50 0 50 0 0 0
+    ∷ rec 2 0 50 4 50 0 1 0
+    ∷ rec 3 4 50 4 50 1 0 1
+    ∷ rec 4 4 14 4 13 2 0 1
+    ∷ rec 5 14 50 27 43 2 0 2
+    ∷ rec 6 27 35 32 32 4 0 3
+    ∷ rec 6 35 43 39 42 4 0 4
     ∷ [])
     ∷ "| a\n |- \n#+tblfm:\n\nx" reads
-    (rec 1 0 20 0 20 0 0
-    ∷ rec 3 0 20 0 20 0 0
-    ∷ rec 10 0 19 0 9 1 0
-    ∷ rec 11 0 4 0 3 2 0
-    ∷ rec 11 4 9 5 7 2 1
-    ∷ rec 16 19 20 19 20 1 0
+    (rec 1 0 20 0 20 0 0 0
+    ∷ rec 3 0 20 0 20 0 0 0
+    ∷ rec 10 0 19 0 9 1 0 0
+    ∷ rec 11 0 4 0 3 2 0 0
+    ∷ rec 11 4 9 5 7 2 1 1
+    ∷ rec 16 19 20 19 20 1 0 4
     ∷ [])
-    ∷ "|" reads (rec 1 0 1 0 1 0 0 ∷ rec 3 0 1 0 1 0 0 ∷ rec 10 0 1 0 1 1 0 ∷ rec 11 0 1 0 1 2 0 ∷ [])
+    ∷ "|" reads (rec 1 0 1 0 1 0 0 0 ∷ rec 3 0 1 0 1 0 0 0 ∷ rec 10 0 1 0 1 1 0 0 ∷ rec 11 0 1 0 1 2 0 0 ∷ [])
     ∷ ":a:\n#+begin_b\nx\n#+end_b\ny\n:END:\n|\n" reads
-    (rec 1 0 34 0 34 0 0
-    ∷ rec 3 0 34 0 34 0 0
-    ∷ rec 7 0 32 4 26 1 0
-    ∷ rec 8 4 24 14 16 2 3
-    ∷ rec 16 14 16 14 16 3 0
-    ∷ rec 16 24 26 24 26 2 0
-    ∷ rec 10 32 34 32 34 1 0
-    ∷ rec 11 32 34 32 33 6 0
+    (rec 1 0 34 0 34 0 0 0
+    ∷ rec 3 0 34 0 34 0 0 0
+    ∷ rec 7 0 32 4 26 1 0 0
+    ∷ rec 8 4 24 14 16 2 3 1
+    ∷ rec 16 14 16 14 16 3 0 2
+    ∷ rec 16 24 26 24 26 2 0 4
+    ∷ rec 10 32 34 32 34 1 0 6
+    ∷ rec 11 32 34 32 33 6 0 6
     ∷ [])
-    ∷ "#+begin_src\n:a:\n:END:\n#+end_src\n\n" reads (rec 1 0 33 0 33 0 0 ∷ rec 3 0 33 0 33 0 0 ∷ rec 9 0 33 12 22 1 4 ∷ [])
+    ∷ "#+begin_src\n:a:\n:END:\n#+end_src\n\n" reads (rec 1 0 33 0 33 0 0 0 ∷ rec 3 0 33 0 33 0 0 0 ∷ rec 9 0 33 12 22 1 4 0 ∷ [])
     ∷ []
 
 -- a closer is looked for before the container's end; the first one closes, even inside another block

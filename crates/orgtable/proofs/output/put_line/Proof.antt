@@ -9,15 +9,15 @@ use native.Mathlib.Omega.{arith}
 use borrow.Author.Needs.{needs}
 use lib.ListN.{length, take}
 use lib.Seq.{slice}
-use Rattle.table.specs.Records.{recordSize}
-use Rattle.orgtable.specs.Printed.{line}
+use Rattle.table.specs.Records.{recordSize, linePlace}
+use Rattle.orgtable.specs.Printed.{line, cellSize, lineSize}
 use Rattle.orgtable.proofs.Laws.Lines.{line-turn, line-end}
 use Rattle.orgtable.proofs.output.put_line.Statement.{statement}
 use Rattle.orgtable.proofs.output.put_line.Tie as tie
 
 abbrev Inv-loop : tie.InvT-loop
 Inv-loop out₀ used table at end₀ i₀ out end i =
-    (at ≤ i) × (i ≤ at + 6) × (length out ≡ length out₀) × (end + 11 * (at + recordSize - i) ≤ used + 77)
+    (at ≤ i) × (i ≤ at + linePlace) × (length out ≡ length out₀) × (end + cellSize * (at + recordSize - i) ≤ used + lineSize)
     × (take end out ++ line (slice i (at + recordSize) table) ≡ take used out₀ ++ line (slice at (at + recordSize) table))
 
 abbrev μ-loop : tie.MeasureT-loop

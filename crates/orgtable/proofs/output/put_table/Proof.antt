@@ -1,6 +1,6 @@
 -- `orgtable::output::put_table` meets its contract.
 -- The invariant: the bytes in use, followed by the lines of the records from `i` on, are those asked for, and each of these records has
--- 77 bytes left. The measure is these records. From Lines.
+-- 88 bytes left. The measure is these records. From Lines.
 -- Assumes nothing.
 use mathlib.Core.Path.{_≡_, refl, _∙_}
 use mathlib.Core.List.{_++_}
@@ -9,14 +9,14 @@ use native.Mathlib.Nat.{sub-zero}
 use native.Mathlib.Omega.{arith}
 use lib.ListN.{length, take, drop}
 use Rattle.table.specs.Records.{recordSize}
-use Rattle.orgtable.specs.Printed.{recordLines}
+use Rattle.orgtable.specs.Printed.{recordLines, lineSize}
 use Rattle.orgtable.proofs.Laws.Lines.{lines-turn, lines-end}
 use Rattle.orgtable.proofs.output.put_table.Statement.{statement}
 use Rattle.orgtable.proofs.output.put_table.Tie as tie
 
 abbrev Inv-loop : tie.InvT-loop
 Inv-loop out₀ table count used₀ i₀ out used i =
-    (i ≤ count) × (length out ≡ length out₀) × (used + 77 * (count - i) ≤ length out)
+    (i ≤ count) × (length out ≡ length out₀) × (used + lineSize * (count - i) ≤ length out)
     × (take used out ++ recordLines (count - i) (drop (i * recordSize) table) ≡ recordLines count table)
 
 abbrev μ-loop : tie.MeasureT-loop

@@ -5,6 +5,7 @@ use mathlib.Core.Path.{sym, ap, _∙_}
 use Prim.Native.Nat.{ℕ}
 use borrow.Author.Needs.{needs}
 use Rattle.text.proofs.Laws.LinesIn.{nextLine-to}
+use Rattle.text.proofs.Laws.LineNumbers.{lineNumber-le}
 use Rattle.rules.specs.Headings.{isHeadingUpTo}
 use Rattle.table.specs.Makers.{headingRecord}
 use Rattle.reading.proofs.Laws.SectionPlaces.{heading-record, headingLine-order}
@@ -22,9 +23,11 @@ returns c =
     let l = start .pre .0 in
     let order = headingLine-order l in
     let limit = l .here .limit in
+    let number = lineNumber-le (args .text .now) (args .at) in
+    let line = start .pre .2 in
     let end = nextLine-to (args .text .now) (isHeadingUpTo (args .stars)) (args .next) (order .2) in (
-      sym (heading-record _ _ (l .here) (l .some) _ (l .end) _ _ _ _ (l .stars) (l .next) (at-end .next-heading .ensures))
-          ∙ ap (λ (q : ℕ). headingRecord (args .text .now) q (args .at)) (c .find-parent .ensures .0),
+      rw (start .pre .2) (sym (heading-record _ _ (l .here) (l .some) _ (l .end) _ _ _ _ (l .stars) (l .next) (at-end .next-heading .ensures))
+          ∙ ap (λ (q : ℕ). headingRecord (args .text .now) q (args .at)) (c .find-parent .ensures .0)),
       search needs,
     )
 

@@ -2,7 +2,7 @@
 -- Assumes nothing.
 use mathlib.Core.Path.{_≡_, sym, ap, _∙_}
 use mathlib.Core.List.{List}
-use Prim.Native.Nat.{ℕ, _+_, _*_, _≤_}
+use Prim.Native.Nat.{ℕ, _+_, _*_, _≤_, _<_}
 use native.Mathlib.Omega.{arith}
 use lib.ListN.{length}
 use borrow.Author.Needs.{needs}
@@ -16,6 +16,9 @@ use Rattle.table.specs.Reading.{nearest}
 use Rattle.reading.specs.Walk.{State, state, entry, absorb, HeadingLine}
 use Rattle.reading.specs.Tracked.{Earlier, lastIndex, Tracked}
 use Rattle.table.proofs.Basics.{on}
+use Rattle.text.specs.Limits.{textLimit}
+use Rattle.text.specs.LineNumbers.{lineNumber}
+use Rattle.text.proofs.Laws.LineNumbers.{lineNumber-le, lineNumber-next}
 use Rattle.reading.proofs.Laws.Absorb.{absorb-any}
 use Rattle.reading.proofs.Laws.SectionPlaces.{heading-stars, heading-line, heading-start, heading-place, headingLine-order}
 use Rattle.reading.proofs.Laws.Tracked.{tracked-heading}
@@ -47,8 +50,15 @@ module _ (c : tie.After-next-heading) where
         next = c .next-heading .ensures ∙ nextLine-upTo s (length s) _ (inner .1) (omega arith);
       }
 
+  -- its number, and that of the line after it
+  number-small : start .args .number ≤ textLimit
+  number-small = omega (arith, start .pre .4, lineNumber-le s (start .args .at), start .pre .0 .limit, start .pre .1)
+
+  inner-line : c .before .line-end .result < length s → start .args .number + 1 ≡ lineNumber s (c .before .line-end .result)
+  inner-line i = ap (λ (k : ℕ). k + 1) (start .pre .4) ∙ (sym (lineNumber-next s _ (length s) _ (start .pre .1) (omega arith) (c .before .line-end .ensures) i))
+
 heading-record-requires : tie.Need-heading-record-requires
-heading-record-requires c κs = let at-next = c .before .before in (line at-next, start at-next .pre .2)
+heading-record-requires c κs = let at-next = c .before .before in (line at-next, start at-next .pre .2, start at-next .pre .4)
 
 emit-requires : tie.Need-emit-requires
 emit-requires c κs = (on (c .before .if1 .came) (λ w. rw (w .3) (w .2 .ensures .1)) (λ w. rw (w .2) (w .1 .ensures)), omega arith)
@@ -65,6 +75,8 @@ read-section-requires c κs =
       sym (heading-place _ _ (l .here) (l .some) _ (l .end)),
       omega arith,
       omega arith,
+      inner-line at-next,
+      omega (arith, number-small at-next),
     )
 
 -- the record that is emitted does as the heading's, after the earlier headings hs
@@ -90,14 +102,14 @@ module _ (c : tie.After-emit) where
 returns : tie.Need-returns
 unfolding headingRecord
 returns c =
-    let at-section = c .before .before in
+    let at-section = c .before .before .before in
     let at-emit = at-section .before .before .before .before in
     let l = line (at-next at-emit) in
     let order = headingLine-order l in
     let section = rw (l .end) at (at-section .read-section .ensures .0) in
-    let count : at-section .read-section .result .count ≤ 2 * at-next at-emit .next-heading .result + 2 =
-    omega (arith, at-section .read-section .ensures .1, at-emit .emit .ensures .1, start (at-next at-emit) .pre .3, order) in (
-      (omega arith, l .next ∙ ap (nextLine isHeading (s (at-next at-emit))) (l .end), count),
+    let count : at-section .read-section .result .sink .count ≤ 2 * at-next at-emit .next-heading .result + 2 =
+    omega (arith, at-section .read-section .ensures .1 .0, at-emit .emit .ensures .1, start (at-next at-emit) .pre .3, order) in (
+      (omega arith, l .next ∙ ap (nextLine isHeading (s (at-next at-emit))) (l .end), count, at-section .read-section .ensures .1 .1),
       λ hs last tracked. heading-entry _ hs _ _ _ _ (emitted at-emit hs last tracked) section,
     )
 
@@ -111,6 +123,7 @@ read-heading-spec =
     heading-record-requires
     (λ c κs. search needs)
     emit-requires
+    (λ c. omega (arith, number-small (c .before .before .before .before .before)))
     read-section-requires
     (λ c. search needs)
     returns)

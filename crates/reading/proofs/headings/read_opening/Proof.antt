@@ -11,6 +11,7 @@ use Rattle.text.proofs.Laws.LineStarts.{lineStart-zero}
 use Rattle.rules.specs.Headings.{isHeading}
 use Rattle.rules.proofs.Laws.Headings.{nextLine-upTo}
 use Rattle.rules.proofs.Laws.Places.{placeAt-zero}
+use Rattle.text.proofs.Laws.LineNumbers.{lineNumber-zero}
 use Rattle.reading.proofs.Laws.Turns.{opening-entry}
 use Rattle.reading.proofs.headings.read_opening.Statement.{statement}
 use Rattle.reading.proofs.headings.read_opening.Tie as tie
@@ -25,15 +26,15 @@ module _ (c : tie.After-next-heading) where
 read-section-requires : tie.Need-read-section-requires
 read-section-requires c κs =
     let at-next = c .before in
-    (omega arith, omega arith, lineStart-zero (s at-next), first at-next, sym (placeAt-zero (s at-next)), omega arith, omega arith)
+    (omega arith, omega arith, lineStart-zero (s at-next), first at-next, sym (placeAt-zero (s at-next)), omega arith, omega arith, λ i. sym (lineNumber-zero (s at-next)), omega arith)
 
 returns : tie.Need-returns
 returns c =
-    let at-section = c .before .before in
+    let at-section = c .before .before .before in
     let at-next = at-section .before .before in
     let at-emit = at-next .before .before .before in
     let start = at-emit .before .before .before .before in (
-      (first at-next, omega arith),
+      (first at-next, omega (arith, at-section .read-section .ensures .1 .0), at-section .read-section .ensures .1 .1),
       opening-entry _ _ _ _ (start .pre .1) (at-emit .emit .ensures .0) (at-section .read-section .ensures .0),
     )
 

@@ -14,15 +14,15 @@ use Rattle.reading.proofs.headings.walk.Tie as tie
 read-headings-requires : tie.Need-read-headings-requires
 read-headings-requires c κs =
     let at-opening = c .before .before .before in
-    let (first, count) = at-opening .read-opening .ensures .0 in
-    (rw first (next-heading _ 0 (omega arith) (lineStart-zero _)), omega arith, count)
+    let (first, count, line) = at-opening .read-opening .ensures .0 in
+    (rw first (next-heading _ 0 (omega arith) (lineStart-zero _)), omega arith, count, line)
 
 returns : tie.Need-returns
 returns c =
     let at-headings = c .before .before in
     let at-opening = at-headings .before .before .before .before in
     let start = at-opening .before .before .before .before in
-    let (first, count) = at-opening .read-opening .ensures .0 in
+    let (first, count, line) = at-opening .read-opening .ensures .0 in
     (rw first at (at-headings .read-headings .ensures [] refl (tracked-none _)))
     ∙ reading-turn _ _ _ (start .pre .1) (at-opening .read-opening .ensures .1)
 

@@ -11,8 +11,8 @@ keep-headings-requires : tie.Need-keep-headings-requires
 keep-headings-requires c κs =
     let at-opening = c .before .before .before .before in
     let start = at-opening .before .before .before .before in
-    let (first, count) = at-opening .read-opening .ensures .0 in
-    keeps-opening _ _ _ (start .pre) first count (at-opening .read-opening .ensures .1) (c .before .if1 .left)
+    let (first, count, line) = at-opening .read-opening .ensures .0 in
+    keeps-opening _ _ _ _ (start .pre) first count line (at-opening .read-opening .ensures .1) (c .before .if1 .left)
 
 pub keep-spec : {M : Type 1} → statement M
 keep-spec =

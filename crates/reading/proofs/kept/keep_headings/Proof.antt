@@ -11,15 +11,15 @@ use Rattle.reading.proofs.kept.keep_headings.Statement.{statement}
 use Rattle.reading.proofs.kept.keep_headings.Tie as tie
 
 abbrev Inv-loop : tie.InvT-loop
-Inv-loop text from count store₀ end at₀ last₀ n₀ store at last n = Keeps text store at last n × (length store ≡ length store₀)
+Inv-loop text from number count store₀ end at₀ line₀ last₀ n₀ store at line last n = Keeps text store at line last n × (length store ≡ length store₀)
 
 abbrev μ-loop : tie.MeasureT-loop
-μ-loop text from count store₀ end at₀ last₀ n₀ store at last n = length text - at
+μ-loop text from number count store₀ end at₀ line₀ last₀ n₀ store at line last n = length text - at
 
 read-heading-requires : tie.Need-read-heading-requires Inv-loop μ-loop
 read-heading-requires c κs =
     let K = c .before .before .loop .inv .0 in
-    (K .here, c .before .loop-test .taken, keeps-small K, K .bound)
+    (K .here, c .before .loop-test .taken, keeps-small K, K .bound, K .line (c .before .loop-test .taken))
 
 returns : tie.Need-returns Inv-loop μ-loop
 returns c =
@@ -35,8 +35,8 @@ loop-again c =
     let at-heading = c .before .before .before in
     let at-test = at-heading .before .before in
     let K = at-test .before .loop .inv .0 in
-    let (less, next, count) = at-heading .read-heading .ensures .0 in (
-      keeps-turn K _ (at-test .loop-test .taken) next count (at-heading .read-heading .ensures .1 (K .earlier) (K .index) (K .tracked)) (c .if1 .left),
+    let (less, next, count, line) = at-heading .read-heading .ensures .0 in (
+      keeps-turn K _ _ (at-test .loop-test .taken) next count line (at-heading .read-heading .ensures .1 (K .earlier) (K .index) (K .tracked)) (c .if1 .left),
       search needs,
     )
 

@@ -1,4 +1,4 @@
--- `reading::sink::put` meets its contract: seven numbers that fit, written one after the other, are the record's numbers written at once.
+-- `reading::sink::put` meets its contract: eight numbers that fit, written one after the other, are the record's numbers written at once.
 -- Assumes nothing.
 use native.Mathlib.Omega.{arith}
 use native.Mathlib.Numerals.{towards-suc}
@@ -39,4 +39,8 @@ put-spec =
     (λ c. search needs)
     (λ c. simp length-set (omega arith))
     (λ c. search needs)
+    (λ c. search needs)
+    (λ c. search needs)
+    (λ c. simp length-set (omega arith))
+    (λ c. simp length-set)
     (λ c. simp towards-suc))

@@ -12,37 +12,37 @@ use Rattle.reading.proofs.walk.line_record.Tie as tie
 -- ---- a row
 
 begins-with-requires : tie.Need-begins-with-requires
-begins-with-requires c κs = let o = lineOf-order _ _ _ (c .before .before .before .pre) in (o .1, omega arith)
+begins-with-requires c κs = let o = lineOf-order _ _ _ (c .before .before .before .pre .0) in (o .1, omega arith)
 
 returns : tie.Need-returns
 unfolding word
 returns c =
     let at-rows = c .before .before .before in
     let start = at-rows .before .before in
-    rw (at-rows .if1 .taken) (rw (c .if2 .taken) at (row-tested _ _ _ (start .args .parent) (start .pre) _ (c .before .begins-with .ensures)))
+    rw (at-rows .if1 .taken, start .pre .1) (rw (c .if2 .taken) at (row-tested _ _ _ (start .args .parent) (start .pre .0) _ (c .before .begins-with .ensures)))
 
 returns-2 : tie.Need-returns-2
 unfolding word
 returns-2 c =
     let at-rows = c .before .before .before in
     let start = at-rows .before .before in
-    rw (at-rows .if1 .taken) (rw (c .if2 .left) at (row-tested _ _ _ (start .args .parent) (start .pre) _ (c .before .begins-with .ensures)))
+    rw (at-rows .if1 .taken, start .pre .1) (rw (c .if2 .left) at (row-tested _ _ _ (start .args .parent) (start .pre .0) _ (c .before .begins-with .ensures)))
 
 -- ---- a node property
 
 word-end-requires : tie.Need-word-end-requires
-word-end-requires c κs = let o = lineOf-order _ _ _ (c .before .before .pre) in (o .1, omega arith)
+word-end-requires c κs = let o = lineOf-order _ _ _ (c .before .before .pre .0) in (o .1, omega arith)
 
 run-end-requires : tie.Need-run-end-requires
 run-end-requires c κs =
-    let line = c .before .before .before .pre in
+    let line = c .before .before .before .pre .0 in
     let o = lineOf-order _ _ _ line in
     (firstRun-order _ _ _ line _ (c .word-end .ensures) .1, omega arith)
 
 returns-3 : tie.Need-returns-3
 returns-3 c =
     let at-rows = c .before .before in
-    rw (at-rows .if1 .left) (property-record _ _ _ _ (at-rows .before .before .pre) _ _ (c .before .word-end .ensures) (c .run-end .ensures))
+    rw (at-rows .if1 .left, at-rows .before .before .pre .1) (property-record _ _ _ _ (at-rows .before .before .pre .0) _ _ (c .before .word-end .ensures) (c .run-end .ensures))
 
 pub line-record-spec : {M : Type 1} → statement M
 line-record-spec =

@@ -2,11 +2,16 @@
 -- is a range too. From Ranges.
 -- Assumes nothing.
 use mathlib.Core.Path.{_≡_, sym, _∙_}
+use Prim.Native.Nat.{_+_, _≤_, _<_}
+use native.Mathlib.Omega.{arith}
+use lib.ListN.{length}
 use borrow.Author.Needs.{needs}
+use Rattle.text.specs.LineNumbers.{lineNumber}
+use Rattle.text.proofs.Laws.LineNumbers.{lineNumber-le}
 use Rattle.rules.specs.Findings.{InScope}
 use Rattle.reading.specs.Walk.{scopeOf}
 use Rattle.rules.proofs.Laws.LineOf.{lineOf, lineSpan-start, lineSpan-end}
-use Rattle.reading.proofs.Laws.Ranges.{firstElement, element-is, element-end, element-in, range-rest, range-place, no-end-rest}
+use Rattle.reading.proofs.Laws.Ranges.{element-lines, firstElement, element-is, element-end, element-in, range-rest, range-place, no-end-rest}
 use Rattle.reading.proofs.walk.next_element.Statement.{statement}
 use Rattle.reading.proofs.walk.next_element.Tie as tie
 
@@ -29,18 +34,34 @@ first-line-requires c κs =
     let pre = c .before .before .before .pre in
     (element-end _ _ _ (pre .0 .range) (pre .1) _ (here c) .1, pre .0 .range .text)
 
+number-le : (c : tie.After-shared-slice-known) → c .before .args .number ≤ length (c .before .args .text .now)
+number-le c =
+    let pre = c .before .pre in
+    let text = pre .0 .range .text in
+    omega (arith, pre .2, lineNumber-le (c .before .args .text .now) (c .before .args .at))
+
+-- so many lines are its own and blank
+lines : (c : tie.After-first-line) → let a = c .before .before .before .before .args in
+    (c .before .element-at .result .own + c .first-line .result .lines ≤ length (a .text .now))
+    × (c .first-line .result .at < length (a .text .now)
+    → lineNumber (a .text .now) (c .first-line .result .at) ≡ lineNumber (a .text .now) (a .at) + (c .before .element-at .result .own + c .first-line .result .lines))
+lines c =
+    let pre = c .before .before .before .before .pre in
+    element-lines _ _ _ (pre .0 .range) (pre .1) _ (here (c .before)) _ (c .first-line .ensures .0) _ (c .first-line .ensures .1)
+
 returns : tie.Need-returns
 returns c =
-    let at-first = c .before .before .before in
+    let at-first = c .before .before .before .before .before .before in
     let at-element = at-first .before in
     let at-line = at-element .before in
-    let (known, some) = at-line .before .before .pre in
+    let (known, some, number) = at-line .before .before .pre in
     let range = known .range in
     let is = here at-element in
-    let next = at-first .first-line .ensures in
+    let next = at-first .first-line .ensures .0 in
     record {
       here = is;
       next = next;
+      line = λ i. rw number (omega (arith, lines at-first .1 i));
       lies = element-in _ _ _ range some _ is _ next;
       rest = record {
         range = range-rest _ _ _ range some _ is _ next;
@@ -56,6 +77,8 @@ next-element-spec =
     (λ c κs. search needs)
     (λ c κs. line c)
     first-line-requires
+    (λ c. omega (arith, lines (c .before), number-le (c .before .before .before .before)))
+    (λ c. omega (arith, lines (c .before .before), number-le (c .before .before .before .before .before)))
     (λ c κs. search needs)
-    (λ c κs. line (c .before .before .before .before))
+    (λ c κs. line (c .before .before .before .before .before .before .before))
     returns)

@@ -1,15 +1,17 @@
 -- `reading::walk::read_section` meets its contract: a section whose lines are all blank gives no record, any other its record and then its
 -- elements, from its first line on and at the place that the lines before it give.
 -- Assumes nothing.
-use mathlib.Core.Path.{_≡_, _∙_}
+use mathlib.Core.Path.{_≡_, _∙_, ap}
 use mathlib.Core.Bool.{true≢false}
-use Prim.Native.Nat.{_≤_}
+use Prim.Native.Nat.{_≤_, _<_, _+_}
 use native.Mathlib.Omega.{arith}
 use lib.ListN.{length}
 use borrow.Author.Needs.{needs}
+use Rattle.text.specs.LineNumbers.{lineNumber}
+use Rattle.text.proofs.Laws.LineNumbers.{lineNumber-le}
 use Rattle.rules.specs.Places.{placeAt}
-use Rattle.reading.specs.Walk.{Range}
-use Rattle.reading.proofs.Laws.SectionPlaces.{section-end, section-first, section-range, section-place}
+use Rattle.reading.specs.Walk.{far, Range}
+use Rattle.reading.proofs.Laws.SectionPlaces.{section-number, section-blanks, section-end, section-first, section-range, section-place}
 use Rattle.reading.proofs.Laws.Turns.{section-none, section-turn}
 use Rattle.reading.proofs.walk.read_section.Statement.{statement}
 use Rattle.reading.proofs.walk.read_section.Tie as tie
@@ -22,49 +24,76 @@ module _ (c : tie.After-first-line) where
   abbrev start : tie.Start
   start = c .before .before .before
 
-  order : (start .args .from ≤ c .first-line .result) × (c .first-line .result ≤ start .args .to) × (start .args .to ≤ length (start .args .text .now))
+  order : (start .args .from ≤ c .first-line .result .at) × (c .first-line .result .at ≤ start .args .to) × (start .args .to ≤ length (start .args .text .now))
   order =
       let pre = start .pre in
       let end = section-end _ _ _ (pre .1) (pre .2) (pre .3) in
-      let first = section-first _ _ _ (pre .1) (pre .2) (pre .3) _ (c .first-line .ensures) in
+      let first = section-first _ _ _ (pre .1) (pre .2) (pre .3) _ (c .first-line .ensures .0) in
       omega arith
 
-  range : Range (start .args .text .now) (c .first-line .result) (start .args .to)
-  range = let pre = start .pre in section-range _ _ _ (pre .1) (pre .2) (pre .3) _ (c .first-line .ensures)
+  range : Range (start .args .text .now) (c .first-line .result .at) (start .args .to)
+  range = let pre = start .pre in section-range _ _ _ (pre .1) (pre .2) (pre .3) _ (c .first-line .ensures .0)
 
-placed : (c : tie.After-first-place) → let at-first = c .before .before in
-    c .first-place .result ≡ placeAt (start at-first .args .text .now) (at-first .first-line .result)
+  -- the line number there, of what is in the text
+  number : c .first-line .result .at < length (start .args .text .now)
+      → start .args .number + c .first-line .result .lines ≡ lineNumber (start .args .text .now) (c .first-line .result .at)
+  number i =
+      let pre = start .pre in
+      section-number _ _ _ (pre .1) (pre .2) (pre .3) _ (c .first-line .ensures .0) _ (c .first-line .ensures .1) _ (pre .7) i
+
+  number-small : start .args .number + c .first-line .result .lines ≤ far + length (start .args .text .now)
+  number-small =
+      let pre = start .pre in
+      omega (arith, pre .8, section-blanks _ _ _ (pre .1) (pre .2) (pre .3) _ (c .first-line .ensures .1))
+
+placed : (c : tie.After-first-place) → let at-first = c .before .before .before in
+    c .first-place .result ≡ placeAt (start at-first .args .text .now) (at-first .first-line .result .at)
 placed c =
-    let at-first = c .before .before in
+    let at-first = c .before .before .before in
     let pre = start at-first .pre in
-    c .first-place .ensures ∙ section-place _ _ _ (pre .1) (pre .2) (pre .3) _ (at-first .first-line .ensures) _ (pre .4)
+    c .first-place .ensures ∙ section-place _ _ _ (pre .1) (pre .2) (pre .3) _ (at-first .first-line .ensures .0) _ (pre .4)
 
 returns : tie.Need-returns
 returns c =
-    let at-first = c .before in
-    let bounds = order at-first in
-    (section-none _ _ _ _ _ _ (start at-first .pre .3) (at-first .first-line .ensures) (c .if1 .taken), omega arith)
+    let at-first = c .before .before in
+    let bounds = order at-first in (
+      section-none _ _ _ _ _ _ (start at-first .pre .3) (at-first .first-line .ensures .0) (c .if1 .taken),
+      (omega arith, λ i. let same : at-first .first-line .result .at ≡ start at-first .args .to = omega arith in number at-first (omega arith) ∙ ap (lineNumber _) same),
+    )
 
 emit-requires : tie.Need-emit-requires
-emit-requires c κs = let bounds = order (c .before .before .before) in search needs
+emit-requires c κs =
+    let at-test = c .before .before in
+    let at-first = at-test .before .before in
+    let bounds = order at-first in
+    let some = at-test .if1 .left in
+    let line = number at-first (omega arith) in
+    let small = lineNumber-le (start at-first .args .text .now) (at-first .first-line .result .at) in
+    search needs
 
 read-elements-requires : tie.Need-read-elements-requires
 read-elements-requires c κs =
     let at-place = c .before .before .before .before .before in
-    let at-first = at-place .before .before in
-    let bounds = order at-first in
-    (record { range = range at-first; place = λ h. placed at-place; ends = λ e. absurd (true≢false e) }, omega arith, omega arith, omega arith)
+    let at-first = at-place .before .before .before in
+    let bounds = order at-first in (
+      record { range = range at-first; place = λ h. placed at-place; ends = λ e. absurd (true≢false e) },
+      omega arith,
+      omega arith,
+      omega arith,
+      λ h. number at-first (omega arith),
+    )
 
 returns-2 : tie.Need-returns-2
 returns-2 c =
     let at-read = c .before .before in
     let at-emit = at-read .before .before .before .before in
     let at-test = at-emit .before .before .before in
-    let at-first = at-test .before in
-    let bounds = order at-first in (
+    let at-first = at-test .before .before in
+    let bounds = order at-first in
+    let line = number at-first (omega arith) in (
       at-read .read-elements .ensures .0
-          ∙ section-turn _ _ _ _ _ _ (start at-first .pre .3) (at-first .first-line .ensures) _ (at-test .if1 .left) (at-emit .emit .ensures .0),
-      omega arith,
+          ∙ section-turn _ _ _ _ _ _ (start at-first .pre .3) (at-first .first-line .ensures .0) _ (at-test .if1 .left) (rw line at (at-emit .emit .ensures .0)),
+      (omega (arith, at-read .read-elements .ensures .1 .0), at-read .read-elements .ensures .1 .1 (at-test .if1 .left)),
     )
 
 pub read-section-spec : {M : Type 1} → statement M
@@ -72,6 +101,7 @@ read-section-spec =
     tie.close
     (tie.spec
     first-line-requires
+    (λ c. let n = number-small (c .before) in omega arith)
     returns
     (λ c κs. search needs)
     emit-requires

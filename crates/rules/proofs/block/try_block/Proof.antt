@@ -14,6 +14,8 @@ use Rattle.text.proofs.Laws.Parts.{part-slice}
 use Rattle.rules.specs.Elements.{linesBefore}
 use Rattle.rules.specs.Findings.{closerAt}
 use Rattle.rules.proofs.Laws.LineOf.{lineOf-order}
+use Rattle.text.proofs.Laws.LinesIn.{linesIn-length}
+use Rattle.rules.proofs.Laws.LineRules.{linesBefore-below, closer-count}
 use Rattle.rules.proofs.Laws.Blocks.{block-no, begin-order, name-order, block-unnamed, closer-bytes, block-open, block-verbatim, block-greater}
 use Rattle.rules.proofs.block.try_block.Statement.{statement}
 use Rattle.rules.proofs.block.try_block.Tie as tie
@@ -76,6 +78,25 @@ returns-3 c =
     block-open _ _ _ (at-begin .before .before .before .before .pre .line) (begin at-begin) _ (at-name .word-end .ensures) (at-test .if2 .left) _
     (closer at-closer) (c .enum-told .given .1)
 
+-- so many lines stand before it
+count : (c : tie.After-close) → let at-name = c .before .before .before .before .before .before in
+    let args = at-name .before .before .before .before .before .before .args in
+    (c .close .given .0 .1 .1 .0 + 2 ≤ length (args .text .now) + 2)
+count c =
+    let at-closer = c .before .before in
+    let at-name = at-closer .before .before .before .before in
+    let start = at-name .before .before .before .before .before .before in
+    let s = start .args .text .now in
+    let l = start .args .line in
+    let e = start .args .scope .end in
+    let o = lineOf-order _ _ _ (start .pre .line) in
+    let ls = linesIn s (l .end) e in
+    omega (
+      arith,
+      closer-count (l .end) ls _ (linesBefore-below _ ls) _ _ _ (sym (c .close .given .1) ∙ closer at-closer),
+      linesIn-length s (l .end) e (o .4) (o .5),
+    )
+
 returns-4 : tie.Need-returns-4
 returns-4 c =
     let at-detail = c .before in
@@ -117,6 +138,8 @@ try-block-spec =
     (λ c. search needs)
     returns-3
     (λ c κs. omega (arith, ends (c .before .before .before .before .before .before .before)))
+    (λ c. omega (arith, count (c .before .before .before)))
     returns-4
+    (λ c. omega (arith, count (c .before .before .before)))
     (λ c κs. omega (arith, ends (c .before .before .before .before .before .before .before .before .before)))
     returns-5)

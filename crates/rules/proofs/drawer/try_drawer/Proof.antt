@@ -1,9 +1,15 @@
 -- `rules::drawer::try_drawer` meets its contract: where an `:END:` line may follow, the first line opens a drawer, and the closer says the rest.
 -- Assumes nothing.
 use mathlib.Core.Path.{sym, _∙_}
+use native.Mathlib.Omega.{arith}
 use borrow.Author.Needs.{needs}
 use borrow.Author.Tests.{not-true, not-false}
+use Rattle.text.specs.Runs.{word}
+use Rattle.text.specs.Parts.{linesIn}
+use Rattle.text.proofs.Laws.LinesIn.{linesIn-length}
+use Rattle.rules.specs.Findings.{endLine}
 use Rattle.rules.proofs.Laws.LineOf.{lineOf-order}
+use Rattle.rules.proofs.Laws.LineRules.{linesBefore-below, closer-count}
 use Rattle.rules.proofs.Laws.Drawers.{noEnd-next, drawer-no, drawer-closer, drawer-none}
 use Rattle.rules.proofs.drawer.try_drawer.Statement.{statement}
 use Rattle.rules.proofs.drawer.try_drawer.Tie as tie
@@ -27,6 +33,22 @@ returns-3 c =
     drawer-closer _ _ _ (at-line .before .before .before .before .before .pre .line) (sym (at-line .before .is-drawer-line .ensures) ∙ not-false _ (at-line .if2 .left)) _
     (sym (c .enum-told .given .1) ∙ at-closer .find-end .ensures)
 
+add : tie.Need-add-t11
+unfolding endLine
+add c =
+    let at-closer = c .before .before .before in
+    let start = at-closer .before .before .before .before .before .before in
+    let s = start .args .text .now in
+    let l = start .args .line in
+    let e = start .args .scope .end in
+    let o = lineOf-order _ _ _ (start .pre .line) in
+    let ls = linesIn s (l .end) e in
+    omega (
+      arith,
+      closer-count (l .end) ls _ (linesBefore-below (word ":end:") ls) _ _ _ (sym (c .before .close .given .1) ∙ at-closer .find-end .ensures),
+      linesIn-length s (l .end) e (o .4) (o .5),
+    )
+
 returns-4 : tie.Need-returns-4
 returns-4 c =
     let at-closer = c .before .before .before in
@@ -45,4 +67,5 @@ try-drawer-spec =
     (λ c. search needs)
     (λ c. search needs)
     returns-3
+    add
     returns-4)

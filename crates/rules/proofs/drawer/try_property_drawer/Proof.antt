@@ -6,11 +6,13 @@ use native.Mathlib.Omega.{arith}
 use borrow.Author.Needs.{needs}
 use borrow.Author.Tests.{not-true, not-false}
 use Rattle.text.specs.Runs.{word}
-use Rattle.text.specs.Parts.{lineIn}
+use Rattle.text.specs.Parts.{lineIn, linesIn}
+use Rattle.text.proofs.Laws.LinesIn.{linesIn-length}
 use Rattle.rules.specs.LineTests.{isPropertiesLine}
 use Rattle.rules.specs.Places.{allowsProperties}
 use Rattle.rules.proofs.Laws.LineOf.{lineOf-order}
 use Rattle.rules.proofs.Laws.LineTests.{isPropertiesLine-part}
+use Rattle.rules.proofs.Laws.LineRules.{propertiesBefore-below, closer-count}
 use Rattle.rules.proofs.Laws.Properties.{propertyDrawer-no, propertyDrawer-closer}
 use Rattle.rules.proofs.drawer.try_property_drawer.Statement.{statement}
 use Rattle.rules.proofs.drawer.try_property_drawer.Tie as tie
@@ -47,6 +49,21 @@ returns-3 c =
     propertyDrawer-closer _ _ _ (at-line .before .before .before .before .before .before .pre .line) _ (line (at-line .before) ∙ not-false _ (at-line .if2 .left)) _
     (sym (c .enum-told .given .1) ∙ at-closer .find-properties-end .ensures)
 
+add : tie.Need-add-t15
+add c =
+    let at-closer = c .before .before .before in
+    let start = at-closer .before .before .before .before .before .before .before in
+    let s = start .args .text .now in
+    let l = start .args .line in
+    let e = start .args .scope .end in
+    let o = lineOf-order _ _ _ (start .pre .line) in
+    let ls = linesIn s (l .end) e in
+    omega (
+      arith,
+      closer-count (l .end) ls _ (propertiesBefore-below ls) _ _ _ (sym (c .before .close .given .1) ∙ at-closer .find-properties-end .ensures),
+      linesIn-length s (l .end) e (o .4) (o .5),
+    )
+
 returns-4 : tie.Need-returns-4
 returns-4 c =
     let at-closer = c .before .before .before in
@@ -67,4 +84,5 @@ try-property-drawer-spec =
     (λ c. search needs)
     (λ c. search needs)
     returns-3
+    add
     returns-4)

@@ -2,6 +2,10 @@
 use mathlib.Core.Path.{sym, _∙_}
 use native.Mathlib.Omega.{arith}
 use borrow.Author.Tests.{not-true, not-false}
+use Rattle.text.specs.Parts.{linesIn}
+use Rattle.text.proofs.Laws.Lines.{leading-le}
+use Rattle.text.proofs.Laws.LinesIn.{linesIn-length}
+use Rattle.rules.specs.LineTests.{lineTest}
 use Rattle.rules.proofs.Laws.LineOf.{lineOf-from, lineOf-order}
 use Rattle.rules.proofs.Laws.Rules.{runOf-no, runOf-yes}
 use Rattle.rules.proofs.lines.try_run.Statement.{statement}
@@ -18,12 +22,23 @@ returns c =
 lines-end-requires : tie.Need-lines-end-requires
 lines-end-requires c κs = let o = lineOf-order _ _ _ (c .before .before .before .pre .0 .line) in omega arith
 
+add : tie.Need-add-t9
+add c =
+    let at-run = c .before in
+    let start = at-run .before .before .before .before in
+    let s = start .args .text .now in
+    let l = start .args .line in
+    let e = start .args .scope .end in
+    let o = lineOf-order _ _ _ (start .pre .0 .line) in
+    omega (arith, at-run .lines-end .ensures .1, leading-le (lineTest (start .args .class)) (linesIn s (l .end) e), linesIn-length s (l .end) e (o .4) (o .5))
+
 returns-2 : tie.Need-returns-2
 returns-2 c =
-    let at-test = c .before in
+    let at-run = c .before in
+    let at-test = at-run .before in
     let pre = at-test .before .before .before .pre in
     runOf-yes _ _ _ (pre .0 .line) _ _ (pre .1) (sym (at-test .before .starts-line .ensures _ (lineOf-from _ _ _ (pre .0 .line))) ∙ not-false _ (at-test .if1 .left))
-    _ (c .lines-end .ensures .0)
+    _ _ (at-run .lines-end .ensures .0) (at-run .lines-end .ensures .1)
 
 pub try-run-spec : {M : Type 1} → statement M
-try-run-spec = tie.close (tie.spec starts-line-requires returns lines-end-requires returns-2)
+try-run-spec = tie.close (tie.spec starts-line-requires returns lines-end-requires add returns-2)

@@ -1,12 +1,14 @@
 -- `rules::lines::try_table` meets its contract: the law of a table, at the ends that the two runs of lines have.
 -- Assumes nothing.
 use mathlib.Core.Path.{sym, _∙_}
+use Prim.Native.Nat.{_+_, _≤_}
 use native.Mathlib.Omega.{arith}
+use lib.ListN.{length}
 use borrow.Author.Tests.{not-true, not-false}
 use Rattle.text.specs.Parts.{linesIn}
 use Rattle.text.proofs.Laws.Lines.{leading-le}
 use Rattle.text.proofs.Laws.LinesIn.{linesIn-length}
-use Rattle.rules.specs.LineTests.{isRow}
+use Rattle.rules.specs.LineTests.{isRow, isFormula}
 use Rattle.rules.proofs.Laws.LineOf.{lineOf-from, lineOf-order}
 use Rattle.rules.proofs.Laws.LineRuns.{past-to}
 use Rattle.rules.proofs.Laws.Rules.{table-no, table-yes}
@@ -29,24 +31,47 @@ lines-end-requires-2 c κs =
     let o = lineOf-order _ _ _ (c .before .before .before .before .pre .line) in
     (past-to _ _ _ _ (o .4) (o .5) _ (c .lines-end .ensures .0), o .5)
 
-add : tie.Need-add-t9
-add c =
-    let at-rows = c .before .before in
+-- the lines of both runs are among those after the first
+both : (c : tie.After-lines-end2) →
+    let start = c .before .before .before .before .before in
+    c .before .lines-end .result .lines + c .lines-end2 .result .lines ≤ length (start .args .text .now) + length (start .args .text .now)
+both c =
+    let at-rows = c .before in
     let start = at-rows .before .before .before .before in
     let s = start .args .text .now in
     let l = start .args .line in
     let e = start .args .scope .end in
+    let q = at-rows .lines-end .result .end in
     let o = lineOf-order _ _ _ (start .pre .line) in
-    omega (arith, at-rows .lines-end .ensures .1, leading-le isRow (linesIn s (l .end) e), linesIn-length s (l .end) e (o .4) (o .5))
+    let to = past-to _ _ _ _ (o .4) (o .5) _ (at-rows .lines-end .ensures .0) in
+    omega (
+      arith,
+      at-rows .lines-end .ensures .1,
+      c .lines-end2 .ensures .1,
+      leading-le isRow (linesIn s (l .end) e),
+      leading-le isFormula (linesIn s q e),
+      linesIn-length s (l .end) e (o .4) (o .5),
+      linesIn-length s q e to (o .5),
+    )
 
 returns-2 : tie.Need-returns-2
 returns-2 c =
-    let at-formulas = c .before in
+    let at-formulas = c .before .before .before in
     let at-rows = at-formulas .before in
     let at-test = at-rows .before in
     let pre = at-test .before .before .before .pre .line in
     table-yes _ _ _ pre (sym (at-test .before .starts-line .ensures _ (lineOf-from _ _ _ pre)) ∙ not-false _ (at-test .if1 .left))
-    _ _ _ (at-rows .lines-end .ensures .0) (at-formulas .lines-end2 .ensures .0) (at-rows .lines-end .ensures .1)
+    _ _ _ _ (at-rows .lines-end .ensures .0) (at-formulas .lines-end2 .ensures .0) (at-rows .lines-end .ensures .1) (at-formulas .lines-end2 .ensures .1)
 
 pub try-table-spec : {M : Type 1} → statement M
-try-table-spec = tie.close (tie.spec starts-line-requires returns lines-end-requires lines-end-requires-2 add returns-2)
+try-table-spec =
+    tie.close
+    (tie.spec
+    starts-line-requires
+    returns
+    lines-end-requires
+    lines-end-requires-2
+    (λ c. omega (arith, both (c .before)))
+    (λ c. omega (arith, both (c .before .before)))
+    (λ c. omega (arith, both (c .before .before .before)))
+    returns-2)

@@ -1,5 +1,5 @@
--- `rules::element::paragraph_end` meets its contract.
--- The invariant: the further lines from `at` on end where those asked for do, and `still` is false only where no `:END:` line stands from `at` on.
+-- `rules::element::paragraph_lines` meets its contract.
+-- The invariant: the further lines from `at` on, counted on from n, are those asked for, and `still` is false only where no `:END:` line stands from `at` on.
 -- The measure is the bytes from `at` on.
 -- Assumes nothing.
 use mathlib.Core.Path.{_≡_, refl, sym, _∙_}
@@ -10,30 +10,30 @@ use lib.ListN.{length}
 use borrow.Author.Needs.{needs}
 use Rattle.text.specs.Parts.{lineIn}
 use Rattle.text.proofs.Laws.LinesIn.{lineIn-some, lineIn-to}
-use Rattle.rules.specs.Findings.{LineOf, NoEnd}
+use Rattle.rules.specs.Findings.{LineOf, NoEnd, paragraphRun}
 use Rattle.rules.proofs.Laws.LineOf.{indent-run, after-end, lineOf, lineSpan-start, lineSpan-next}
 use Rattle.rules.proofs.Laws.NoEnds.{noEnd-line}
-use Rattle.rules.proofs.Laws.Paragraphs.{paragraphEnd, paragraph-none, paragraph-short, paragraph-newline, paragraph-plain}
+use Rattle.rules.proofs.Laws.Paragraphs.{paragraph-none, paragraph-short, paragraph-newline, paragraph-plain}
 use Rattle.rules.proofs.Laws.Paragraphs.{paragraph-blank, paragraph-stop, paragraph-pass}
-use Rattle.rules.proofs.element.paragraph_end.Statement.{statement}
-use Rattle.rules.proofs.element.paragraph_end.Tie as tie
+use Rattle.rules.proofs.element.paragraph_lines.Statement.{statement}
+use Rattle.rules.proofs.element.paragraph_lines.Tie as tie
 
 abbrev Inv-loop : tie.InvT-loop
-Inv-loop text from to at₀ still₀ at still =
-    (at ≤ to) × (to ≤ length text) × (still ≡ false → NoEnd text at to) × (paragraphEnd text at to ≡ paragraphEnd text from to)
+Inv-loop text from to at₀ n₀ still₀ at n still =
+    (at ≤ to) × (to ≤ length text) × (still ≡ false → NoEnd text at to) × (paragraphRun text at to n ≡ paragraphRun text from to 0) × (n ≤ at)
 
 abbrev μ-loop : tie.MeasureT-loop
-μ-loop text from to at₀ still₀ at still = to - at
+μ-loop text from to at₀ n₀ still₀ at n still = to - at
 
 loop-holds : tie.Need-loop-holds Inv-loop μ-loop
-loop-holds c = let start = c .before in (start .pre .0, start .pre .1, start .pre .2, refl)
+loop-holds c = let start = c .before in (start .pre .0, start .pre .1, start .pre .2, refl, omega arith)
 
 returns : tie.Need-returns Inv-loop μ-loop
 returns c =
     let at-body = c .before in
     let at-test = at-body .before in
     let inv = at-test .before .loop .inv in
-    sym (paragraph-short _ _ _ (at-test .loop-test .taken) (inv .1) _ (at-body .run-end .ensures) (c .if1 .taken)) ∙ inv .3
+    sym (paragraph-short _ _ _ (at-test .loop-test .taken) (inv .1) _ (at-body .run-end .ensures) _ (c .if1 .taken)) ∙ inv .3
 
 returns-2 : tie.Need-returns-2 Inv-loop μ-loop
 returns-2 c =
@@ -41,7 +41,7 @@ returns-2 c =
     let at-body = at-some .before in
     let at-test = at-body .before in
     let inv = at-test .before .loop .inv in
-    sym (paragraph-newline _ _ _ (at-test .loop-test .taken) (inv .1) _ (at-body .run-end .ensures) (at-some .if1 .left) (c .if2 .taken)) ∙ inv .3
+    sym (paragraph-newline _ _ _ (at-test .loop-test .taken) (inv .1) _ (at-body .run-end .ensures) (at-some .if1 .left) _ (c .if2 .taken)) ∙ inv .3
 
 -- ---- a line whose first byte may start a rule
 
@@ -73,7 +73,7 @@ next c = let at-test = in-loop c in lineSpan-next _ _ _ _ (c .line-at .ensures) 
 returns-3 : tie.Need-returns-3 Inv-loop μ-loop
 returns-3 c =
     let at-line = c .before .before in
-    sym (rw (here at-line) at (paragraph-blank _ _ _ (line at-line) (c .if4 .taken))) ∙ in-loop at-line .before .loop .inv .3
+    sym (rw (here at-line) at (paragraph-blank _ _ _ (line at-line) (c .before .before .before .before .before .before .before .before .before .before .loop .n) (c .if4 .taken))) ∙ in-loop at-line .before .loop .inv .3
 
 find-rule-requires : tie.Need-find-rule-requires Inv-loop μ-loop
 find-rule-requires c κs = let at-line = c .before .before in record { line = line at-line; ends = none at-line }
@@ -82,7 +82,7 @@ returns-4 : tie.Need-returns-4 Inv-loop μ-loop
 returns-4 c =
     let at-rule = c .before .before in
     let at-line = at-rule .before .before .before in
-    sym (rw (here at-line) at (paragraph-stop _ _ _ (line at-line) _ (at-rule .find-rule .ensures) _ (c .enum-told .given .1)))
+    sym (rw (here at-line) at (paragraph-stop _ _ _ (line at-line) _ (at-rule .find-rule .ensures) (c .before .before .before .before .before .before .before .before .before .before .before .before .before .loop .n) _ (c .enum-told .given .1)))
     ∙ in-loop at-line .before .loop .inv .3
 
 may-end-requires : tie.Need-may-end-requires Inv-loop μ-loop
@@ -101,8 +101,9 @@ loop-again-2 c =
       inv .1,
       c .may-end .ensures,
       rw (here at-line)
-          at (paragraph-pass _ _ _ (line at-line) _ (at-rule .find-rule .ensures) (at-test .if4 .left) (c .before .enum-told2 .given .1))
+          at (paragraph-pass _ _ _ (line at-line) _ (at-rule .find-rule .ensures) (c .before .before .before .before .before .before .before .before .before .before .before .before .before .before .loop .n) (at-test .if4 .left) (c .before .enum-told2 .given .1))
           ∙ inv .3,
+      omega (arith, next at-line),
     )
 
 -- ---- a line whose first byte starts none
@@ -128,20 +129,23 @@ loop-again c =
     let at-body = at-some .before in
     let at-test = at-body .before in
     let inv = at-test .before .loop .inv in
+    let args = at-test .before .before .before .args in
+    let some = lineIn-some (args .text .now) (at-test .before .loop .at) (args .scope .end) (at-test .loop-test .taken) (inv .1) in
     let plain = at-stop .starts-text .ensures (c .before .if3 .taken) in (
       rw (end c) (lineIn-to _ _ _ (inv .0) (inv .1)),
       inv .1,
       λ z. rw (end c) (noEnd-line _ _ _ (inv .2 z)),
       rw (end c)
-          (paragraph-plain _ _ _ (at-test .loop-test .taken) (inv .1) _ (at-body .run-end .ensures) (at-some .if1 .left) (at-byte .if2 .left) plain)
+          (paragraph-plain _ _ _ (at-test .loop-test .taken) (inv .1) _ (at-body .run-end .ensures) (at-some .if1 .left) _ (at-byte .if2 .left) plain)
           ∙ inv .3,
+      omega (arith, end c, some),
     )
 
 returns-5 : tie.Need-returns-5 Inv-loop μ-loop
-returns-5 c = sym (paragraph-none _ _ _ (c .loop-test .left)) ∙ c .before .loop .inv .3
+returns-5 c = sym (paragraph-none _ _ _ _ (c .loop-test .left)) ∙ c .before .loop .inv .3
 
-pub paragraph-end-spec : {M : Type 1} → statement M
-paragraph-end-spec =
+pub paragraph-lines-spec : {M : Type 1} → statement M
+paragraph-lines-spec =
     tie.close
     (tie.spec
     Inv-loop
@@ -153,6 +157,7 @@ paragraph-end-spec =
     returns-2
     (λ c κs. search needs)
     (λ c κs. omega arith)
+    (λ c. omega arith)
     loop-less
     loop-again
     (λ c κs. omega arith)
@@ -162,6 +167,7 @@ paragraph-end-spec =
     returns-4
     (λ c. search needs)
     may-end-requires
+    (λ c. omega arith)
     loop-less-2
     loop-again-2
     returns-5)

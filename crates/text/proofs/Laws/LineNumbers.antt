@@ -1,0 +1,104 @@
+-- Laws of line numbers: so many lines further on, the line number is so much greater  [02 order 7].
+-- Assumes nothing.
+use mathlib.Core.Path.{_≡_, refl, sym, ap, _∙_}
+use mathlib.Core.List.{List, [], _∷_, _++_}
+use Prim.Native.Nat.{ℕ, zero, suc, _+_, _-_, _≤_, _<_}
+use native.Mathlib.Nat.{zero-add}
+use native.Mathlib.Omega.{arith}
+use lib.Dec.{eqb}
+use lib.ListN.{length, take, drop, length-take, length-drop}
+use lib.Seq.{take-add, take-take}
+use borrow.Table.Steps.{cases}
+use Rattle.text.specs.Bytes.{isNewline}
+use Rattle.text.specs.Lines.{lines, size}
+use Rattle.text.specs.Parts.{part, linesIn, lineIn, LineStart}
+use Rattle.text.specs.LineNumbers.{newlines, lineNumber}
+use Rattle.text.proofs.Laws.Lines.{line, rest, line-newline, line-other, take-line, lines-some, size-take-add, size-headLine}
+use Rattle.text.proofs.Laws.Parts.{part-slice, part-take, part-length}
+use Rattle.text.proofs.Laws.LineStarts.{linesIn-start, lines-between}
+
+newlines-append : (x y : List ℕ) → newlines (x ++ y) ≡ newlines x + newlines y
+unfolding newlines
+newlines-append [] y = sym (zero-add (newlines y))
+newlines-append (b ∷ x) y = cases (eqb b 10)
+    (λ h. rw (h, newlines) (omega (arith, newlines-append x y)))
+    (λ h. rw (h, newlines) (newlines-append x y))
+
+newlines-le : (x : List ℕ) → newlines x ≤ length x
+unfolding newlines
+newlines-le [] = omega arith
+newlines-le (b ∷ x) = cases (eqb b 10)
+    (λ h. rw (h, newlines) (omega (arith, newlines-le x)))
+    (λ h. rw (h, newlines) (omega (arith, newlines-le x)))
+
+-- a line that is not the last
+line-newlines : (t : List ℕ) → length (line t) < length t → newlines (line t) ≡ 1
+unfolding newlines isNewline
+line-newlines [] h = absurd (omega arith)
+line-newlines (b ∷ t) h = cases (isNewline b)
+    (λ i. rw (line-newline b t i) (rw (i, newlines)))
+    (λ i. rw (line-other b t i) (rw (i, newlines) (line-newlines t (let j = rw (line-other b t i) at h in omega arith))))
+
+-- so many lines from the text's start on, not at its end
+lines-number : (a : ℕ) (t : List ℕ) → size (take a (lines t)) < length t → newlines (take (size (take a (lines t))) t) ≡ a
+unfolding size newlines
+lines-number zero t h = refl
+lines-number (suc a) t h =
+    let step = lines-some t (omega arith) in
+    let k = size (take a (lines (rest t))) in
+    let few : length (line t) + k < length t = rw step at h in
+    let more = lines-number a (rest t) (omega (arith, length-drop (length (line t)) t)) in
+    rw step
+    (rw (take-add (length (line t)) k t, take-line t, newlines-append (line t) (take k (rest t)))
+    (omega (arith, line-newlines t (omega arith), more)))
+
+module _ (s : List ℕ) where
+  pub lineNumber-zero : lineNumber s 0 ≡ 0
+  unfolding lineNumber newlines
+  lineNumber-zero = refl
+
+  lineNumber-start : (p : ℕ) (h : LineStart s p) → p < length s → lineNumber s p ≡ h .number
+  unfolding lineNumber
+  lineNumber-start p h i = rw (h .is) (lines-number (h .number) s (omega (arith, h .is)))
+
+  -- between two bytes
+  lineNumber-part : (p k : ℕ) → lineNumber s (p + k) ≡ lineNumber s p + newlines (take k (drop p s))
+  unfolding lineNumber
+  lineNumber-part p k = rw (take-add p k s) (newlines-append (take p s) (take k (drop p s)))
+
+  pub lineNumber-le : (p : ℕ) → lineNumber s p ≤ p
+  unfolding lineNumber
+  lineNumber-le p = omega (arith, newlines-le (take p s), length-take p s)
+
+  -- n of the lines from byte p up to byte e further on, and before e
+  pub lineNumber-in : (p e n : ℕ) → p ≤ e → e ≤ length s → p + size (take n (linesIn s p e)) < e
+      → lineNumber s (p + size (take n (linesIn s p e))) ≡ lineNumber s p + n
+  unfolding linesIn
+  lineNumber-in p e n o t h =
+      let k = size (take n (lines (part s p e))) in
+      let slice : take k (drop p s) ≡ take k (part s p e) =
+      let e′ : p + k - p ≡ k = omega arith in
+      rw e′ at (part-slice s p (p + k) (omega arith)) ∙ sym (part-take s k p e (omega arith)) in
+      rw (lineNumber-part p k, slice) (ap (λ (x : ℕ). lineNumber s p + x) (lines-number n (part s p e) (omega (arith, part-length s p e t))))
+
+  -- n of the lines from byte p up to byte e further on
+  pub lineNumber-after : (p e n : ℕ) → LineStart s p → LineStart s e → p ≤ e → n ≤ length (linesIn s p e)
+      → p + size (take n (linesIn s p e)) < length s → lineNumber s (p + size (take n (linesIn s p e))) ≡ lineNumber s p + n
+  unfolding lineNumber
+  lineNumber-after p e n h k o i j =
+      let (m, b) = lines-between s p e h k o in
+      let all = linesIn s p (length s) in
+      let few : n ≤ m = omega (arith, ap length b, length-take m all) in
+      let same : take n (linesIn s p e) ≡ take n (drop (h .number) (lines s)) =
+      rw b (take-take n m all few ∙ ap (take n) (linesIn-start s p h)) in
+      let a = h .number in
+      let q : p + size (take n (linesIn s p e)) ≡ size (take (a + n) (lines s)) = rw same (omega (arith, h .is, size-take-add a n (lines s))) in
+      let number = lines-number (a + n) s (omega (arith, q)) in
+      rw q (number ∙ ap (λ (x : ℕ). x + n) (sym (lineNumber-start p h (omega arith))))
+
+  -- the next line, before byte e
+  pub lineNumber-next : (p e q : ℕ) → p < e → e ≤ length s → q ≡ p + length (lineIn s p e) → q < e → lineNumber s q ≡ lineNumber s p + 1
+  unfolding lineIn
+  lineNumber-next p e q h t i j =
+      let one : q ≡ p + size (take 1 (linesIn s p e)) = i ∙ ap (λ (k : ℕ). p + k) (size-headLine (linesIn s p e)) in
+      rw one (lineNumber-in p e 1 (omega arith) t (rw one at j))
