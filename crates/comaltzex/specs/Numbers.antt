@@ -12,7 +12,7 @@ use Rattle.comaltzex.specs.declared.Value.{Value}
 
 -- the version of the interface: another one whenever an answer, the record's width or a function's signature changes
 abbrev pub version : ℕ
-version = 1
+version = 2
 
 -- a reading call with text s and lent table t answers r and leaves t′
 pub record ReadsAs (s t : List ℕ) (r : Reading) (t′ : List ℕ) : Type 0 where

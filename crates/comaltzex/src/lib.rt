@@ -10,7 +10,7 @@ use table::record;
 use text::number;
 
 // The version of this interface, as specs/Numbers has it.
-const VERSION: u32 = 1;
+const VERSION: u32 = 2;
 
 // The number of a reading call's answer and its count.
 #[repr(C)]
