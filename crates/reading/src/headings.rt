@@ -5,7 +5,7 @@ ghost use Rattle.text.specs.Limits.{textLimit};
 ghost use Rattle.text.specs.LineNumbers.{lineNumber};
 ghost use Rattle.text.specs.Parts.{nextLine};
 ghost use Rattle.rules.specs.Headings.{isHeading};
-ghost use Rattle.reading.specs.Walk.{state, Takes, openingEntries, headingEntry, headingsFrom, readingEntries, Small, HeadingLine, HeadingOrEnd, far};
+ghost use Rattle.reading.specs.Walk.{state, Takes, openingEntries, headingEntry, headingsFrom, readingEntries, Small, HeadingLine, HeadingOrEnd, NumberOf, far};
 ghost use Rattle.reading.specs.Tracked.{parentIn, Earlier, lastIndex, Tracked};
 ghost use Rattle.table.specs.Sections.{lineAt};
 ghost use Rattle.table.specs.Makers.{headingRecord};
@@ -105,7 +105,7 @@ pub fn read_heading(
     sink: Sink,
 ) -> Turn
     requires { ⌜ HeadingOrEnd (now text) at × (at < length (now text)) × (last ≤ far) × (sink .count ≤ 2 * at + 2) × (number ≡ lineNumber (now text) at) ⌝ }
-    ensures { λ r. ⌜ (at < r .next) × (r .next ≡ nextLine isHeading (now (text .entry)) (at + length (lineAt (now (text .entry)) at))) × (r .sink .count ≤ 2 * r .next + 2) × (r .next < length (now (text .entry)) → r .line ≡ lineNumber (now (text .entry)) (r .next)) ⌝ }
+    ensures { λ r. ⌜ (at < r .next) × (r .next ≡ nextLine isHeading (now (text .entry)) (at + length (lineAt (now (text .entry)) at))) × (r .sink .count ≤ 2 * r .next + 2) × NumberOf (now (text .entry)) (r .next) (r .line) ⌝ }
     ensures { λ r. ⌜ ((hs : Earlier) → last ≡ lastIndex hs → Tracked (state (now (table .entry)) sink) hs → Takes (now (table .entry)) sink (headingEntry (now (text .entry)) hs at (sink .count)) (now (table .exit)) (r .sink)) ⌝ }
 {
     let end = text.len();
@@ -146,7 +146,7 @@ pub fn read_headings(
     table: &mut [u32],
     sink: Sink,
 ) -> Sink
-    requires { ⌜ HeadingOrEnd (now text) from × (before ≤ far) × (sink .count ≤ 2 * from + 2) × (from < length (now text) → number ≡ lineNumber (now text) from) ⌝ }
+    requires { ⌜ HeadingOrEnd (now text) from × (before ≤ far) × (sink .count ≤ 2 * from + 2) × NumberOf (now text) from number ⌝ }
     ensures { λ r. ⌜ ((hs : Earlier) → before ≡ lastIndex hs → Tracked (state (now (table .entry)) sink) hs → Takes (now (table .entry)) sink (headingsFrom (now (text .entry)) hs from (sink .count)) (now (table .exit)) r) ⌝ }
 {
     let end = text.len();
@@ -168,7 +168,7 @@ pub fn read_headings(
 // The document and the zeroth section.
 pub fn read_opening(text: &[u8], table: &mut [u32], sink: Sink) -> Turn
     requires { ⌜ (length (now text) ≤ textLimit) × (sink .count ≡ 0) ⌝ }
-    ensures { λ r. ⌜ (r .next ≡ nextLine isHeading (now (text .entry)) 0) × (r .sink .count ≤ 2 * r .next + 2) × (r .next < length (now (text .entry)) → r .line ≡ lineNumber (now (text .entry)) (r .next)) ⌝ }
+    ensures { λ r. ⌜ (r .next ≡ nextLine isHeading (now (text .entry)) 0) × (r .sink .count ≤ 2 * r .next + 2) × NumberOf (now (text .entry)) (r .next) (r .line) ⌝ }
     ensures { λ r. ⌜ Takes (now (table .entry)) sink (openingEntries (now (text .entry))) (now (table .exit)) (r .sink) ⌝ }
 {
     let end = text.len();

@@ -3,9 +3,8 @@ ghost use mathlib.Core.Bool.{false};
 ghost use Prim.Native.Nat.{_+_, _*_, _≤_, _<_};
 ghost use lib.ListN.{length};
 ghost use lib.Seq.{paste};
-ghost use Rattle.text.specs.LineNumbers.{lineNumber};
 ghost use Rattle.text.specs.Limits.{textLimit};
-ghost use Rattle.reading.specs.Walk.{state, sinkOf, HeadingOrEnd, far};
+ghost use Rattle.reading.specs.Walk.{state, sinkOf, HeadingOrEnd, NumberOf, far};
 ghost use Rattle.reading.specs.Kept.{Keeps, MayKeep, GoesOn};
 use crate::headings::read_heading;
 use crate::headings::read_headings;
@@ -84,7 +83,7 @@ pub fn keep(text: &[u8], store: &mut [u32]) -> Kept
 
 // The records after those that are kept, counted or written.
 pub fn read_on(text: &[u8], kept: Kept, table: &mut [u32], writing: bool) -> Sink
-    requires { ⌜ (length (now text) ≤ textLimit) × (0 < kept .count → HeadingOrEnd (now text) (kept .at) × (kept .last ≤ far) × (kept .count ≤ 2 * kept .at + 2) × (kept .at < length (now text) → kept .line ≡ lineNumber (now text) (kept .at))) ⌝ }
+    requires { ⌜ (length (now text) ≤ textLimit) × (0 < kept .count → HeadingOrEnd (now text) (kept .at) × (kept .last ≤ far) × (kept .count ≤ 2 * kept .at + 2) × NumberOf (now text) (kept .at) (kept .line)) ⌝ }
     ensures { λ r. ⌜ GoesOn (now (text .entry)) kept (state (now (table .entry)) (sinkOf (kept .count) writing false)) (state (now (table .exit)) r) ⌝ }
 {
     let sink = Sink {

@@ -11,7 +11,7 @@ ghost use Rattle.rules.specs.Findings.{LineOf, InScope, NoEnd};
 ghost use Rattle.table.specs.Makers.{childRecord};
 ghost use Rattle.table.specs.Nesting.{depthIn};
 ghost use Rattle.reading.specs.Walk.{Takes, entriesFrom, elementsTo, linesTo, sectionOf, sectionEntries, far};
-ghost use Rattle.reading.specs.Walk.{scopeOf, innerLine, RangeIn, ElementIn, StepAt, recordOf, withHeld};
+ghost use Rattle.reading.specs.Walk.{scopeOf, innerLine, NumberOf, RangeIn, ElementIn, StepAt, recordOf, withHeld};
 use crate::sink::Sink;
 use crate::sink::emit;
 use rules::closer::may_end;
@@ -187,7 +187,7 @@ fn read_elements(
 ) -> Reached
     requires { ⌜ RangeIn (now text) from (scopeOf to place true) × (depth ≤ depthLimit) × (parent ≤ far) × (sink .count ≤ 2 * from + 2) × (from < to → number ≡ lineNumber (now text) from) ⌝ }
     ensures { λ r. ⌜ Takes (now (table .entry)) sink (entriesFrom (now (text .entry)) (elementsTo to) parent depth from (sink .count)) (now (table .exit)) (r .sink) ⌝ }
-    ensures { λ r. ⌜ (r .sink .count + 2 * from ≤ sink .count + 2 * to) × (from < to → to < length (now (text .entry)) → r .line ≡ lineNumber (now (text .entry)) to) ⌝ }
+    ensures { λ r. ⌜ (r .sink .count + 2 * from ≤ sink .count + 2 * to) × (from < to → NumberOf (now (text .entry)) to (r .line)) ⌝ }
 {
     if to <= from {
         return Reached {
@@ -302,9 +302,9 @@ pub fn read_section(
     table: &mut [u32],
     sink: Sink,
 ) -> Reached
-    requires { ⌜ (from ≤ length (now text)) × (length (now text) ≤ textLimit) × LineStart (now text) from × (to ≡ nextLine isHeading (now text) from) × (place ≡ placeAt (now text) from) × (parent ≤ far) × (sink .count ≤ 2 * from + 1) × (from < length (now text) → number ≡ lineNumber (now text) from) × (number ≤ far) ⌝ }
+    requires { ⌜ (from ≤ length (now text)) × (length (now text) ≤ textLimit) × LineStart (now text) from × (to ≡ nextLine isHeading (now text) from) × (place ≡ placeAt (now text) from) × (parent ≤ far) × (sink .count ≤ 2 * from + 1) × NumberOf (now text) from number × (number ≤ far) ⌝ }
     ensures { λ r. ⌜ Takes (now (table .entry)) sink (sectionEntries (now (text .entry)) (sectionOf from) parent (sink .count)) (now (table .exit)) (r .sink) ⌝ }
-    ensures { λ r. ⌜ (r .sink .count + 2 * from ≤ sink .count + 2 * to + 1) × (to < length (now (text .entry)) → r .line ≡ lineNumber (now (text .entry)) to) ⌝ }
+    ensures { λ r. ⌜ (r .sink .count + 2 * from ≤ sink .count + 2 * to + 1) × NumberOf (now (text .entry)) to (r .line) ⌝ }
 {
     let first = first_line(text, from, to);
     let at = first.at;
