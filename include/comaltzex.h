@@ -6,7 +6,7 @@
  * they allocate nothing and keep no state, so threads may call them at once
  * (each with a table of its own).
  *
- * Stack: a call needs up to 64 KB of stack. In a later version it may be 96 KB.
+ * Stack: a call needs up to 96 KB of stack.
  *
  * Pointers: each must point to as many elements as its length says, and none
  * may be NULL, not even with length 0. A table may not overlap the text. The
@@ -29,12 +29,12 @@ extern "C" {
  * or a function's signature does. If comaltzex_version() is another number, the
  * library is not the one that this header declares.
  */
-#define COMALTZEX_VERSION 1
+#define COMALTZEX_VERSION 2
 
 #define COMALTZEX_TEXT_LIMIT 65536 /* the longest text, in bytes */
 #define COMALTZEX_DEPTH_LIMIT 32   /* the deepest drawer or greater block */
 #define COMALTZEX_KEY_LIMIT 64     /* the longest key of a lookup, in bytes */
-#define COMALTZEX_RECORD_SIZE 7    /* numbers in a record */
+#define COMALTZEX_RECORD_SIZE 8    /* numbers in a record */
 
 /* The number of an answer. */
 enum comaltzex_number {
@@ -57,7 +57,9 @@ enum comaltzex_field {
     COMALTZEX_FIELD_INNER_START = 3,
     COMALTZEX_FIELD_INNER_END = 4,
     COMALTZEX_FIELD_PARENT = 5, /* the parent's index; the document's is 0, its own */
-    COMALTZEX_FIELD_DETAIL = 6
+    COMALTZEX_FIELD_DETAIL = 6,
+    COMALTZEX_FIELD_LINE = 7    /* how many bytes 10 stand before the start: the
+                                   line's number, counted from 0 */
 };
 
 /* The kind of a record.             inner span                        detail */

@@ -10,14 +10,15 @@
 
 static const char FIRST[] = "* A\n:PROPERTIES:\n:VIN: 7\n:END:\n\nhi\n";
 static const char SECOND[] = "* A\n\n:PROPERTIES:\n:VIN: 7\n:END:\n";
+static const char THIRD[] = "#+begin_src\n* A\n#+end_src\n";
 
 static const uint32_t FIRST_TABLE[] = {
-    1,  0,  35, 0,  35, 0, 0, /* document */
-    2,  0,  35, 4,  35, 0, 1, /* heading */
-    3,  4,  35, 4,  35, 1, 0, /* section */
-    5,  4,  32, 17, 25, 2, 0, /* property drawer */
-    6,  17, 25, 23, 24, 3, 0, /* node property */
-    16, 32, 35, 32, 35, 2, 0  /* paragraph */
+    1,  0,  35, 0,  35, 0, 0, 0, /* document */
+    2,  0,  35, 4,  35, 0, 1, 0, /* heading */
+    3,  4,  35, 4,  35, 1, 0, 1, /* section */
+    5,  4,  32, 17, 25, 2, 0, 1, /* property drawer */
+    6,  17, 25, 23, 24, 3, 0, 2, /* node property */
+    16, 32, 35, 32, 35, 2, 0, 5  /* paragraph */
 };
 
 static uint32_t table[COMALTZEX_RECORD_SIZE * 128];
@@ -62,6 +63,15 @@ static void check_read(const char *what, const char *text, size_t text_len,
     check_untouched(what, number == COMALTZEX_OK ? count * COMALTZEX_RECORD_SIZE : 0);
 }
 
+/* Checks one field of the table's first records. */
+static void check_field(const char *what, enum comaltzex_field field,
+                        const uint32_t *wanted, size_t count)
+{
+    size_t i;
+    for (i = 0; i < count; i++)
+        check(what, table[i * COMALTZEX_RECORD_SIZE + field], wanted[i]);
+}
+
 static void check_lookup(const char *what, const char *text, size_t text_len, size_t at,
                          const char *key, uint32_t number, size_t start, size_t end)
 {
@@ -98,13 +108,15 @@ static void number_names(void)
 
 static void first_sample(void)
 {
+    const size_t fitting = LENGTH(FIRST_TABLE);
     size_t i;
     check_read("first sample", FIRST, 35, LENGTH(table), COMALTZEX_OK, 6);
-    for (i = 0; i < LENGTH(FIRST_TABLE); i++)
+    for (i = 0; i < fitting; i++)
         check("first sample's table", table[i], FIRST_TABLE[i]);
-    check_read("first sample, exact room", FIRST, 35, 42, COMALTZEX_OK, 6);
-    check_read("first sample, room 5", FIRST, 35, 35, COMALTZEX_NO_ROOM, 6);
-    check_read("first sample, 41 numbers", FIRST, 35, 41, COMALTZEX_NO_ROOM, 6);
+    check_read("first sample, exact room", FIRST, 35, fitting, COMALTZEX_OK, 6);
+    check_read("first sample, room 5", FIRST, 35, fitting - COMALTZEX_RECORD_SIZE,
+               COMALTZEX_NO_ROOM, 6);
+    check_read("first sample, a number less", FIRST, 35, fitting - 1, COMALTZEX_NO_ROOM, 6);
     check_read("first sample, no room", FIRST, 35, 0, COMALTZEX_NO_ROOM, 6);
     check_lookup("vin", FIRST, 35, 0, "vin", COMALTZEX_OK, 23, 24);
 }
@@ -113,21 +125,31 @@ static void second_sample(void)
 {
     static const uint32_t kinds[] = {COMALTZEX_DOCUMENT, COMALTZEX_HEADING, COMALTZEX_SECTION,
                                      COMALTZEX_DRAWER, COMALTZEX_PARAGRAPH};
-    size_t i;
+    static const uint32_t lines[] = {0, 0, 2, 2, 3};
     check_read("second sample", SECOND, 32, LENGTH(table), COMALTZEX_OK, LENGTH(kinds));
-    for (i = 0; i < LENGTH(kinds); i++)
-        check("second sample's kinds", table[i * COMALTZEX_RECORD_SIZE + COMALTZEX_FIELD_KIND],
-              kinds[i]);
+    check_field("second sample's kinds", COMALTZEX_FIELD_KIND, kinds, LENGTH(kinds));
+    check_field("second sample's lines", COMALTZEX_FIELD_LINE, lines, LENGTH(lines));
     check_lookup("vin below a blank line", SECOND, 32, 0, "VIN", COMALTZEX_NO_DRAWER, 0, 0);
+}
+
+static void third_sample(void)
+{
+    static const uint32_t kinds[] = {COMALTZEX_DOCUMENT, COMALTZEX_SECTION, COMALTZEX_PARAGRAPH,
+                                     COMALTZEX_HEADING, COMALTZEX_SECTION, COMALTZEX_PARAGRAPH};
+    static const uint32_t lines[] = {0, 0, 0, 1, 2, 2};
+    check_read("third sample", THIRD, 26, LENGTH(table), COMALTZEX_OK, LENGTH(kinds));
+    check_field("third sample's kinds", COMALTZEX_FIELD_KIND, kinds, LENGTH(kinds));
+    check_field("third sample's lines", COMALTZEX_FIELD_LINE, lines, LENGTH(lines));
 }
 
 static void empty_text(void)
 {
-    static const uint32_t document[] = {1, 0, 0, 0, 0, 0, 0};
+    static const uint32_t document[] = {1, 0, 0, 0, 0, 0, 0, 0};
     size_t i;
     check_read("empty text", "", 0, COMALTZEX_RECORD_SIZE, COMALTZEX_OK, 1);
     for (i = 0; i < LENGTH(document); i++)
         check("empty text's table", table[i], document[i]);
+    check_read("empty text, a number less", "", 0, COMALTZEX_RECORD_SIZE - 1, COMALTZEX_NO_ROOM, 1);
     check_lookup("empty text", "", 0, 0, "VIN", COMALTZEX_NO_HEADING, 0, 0);
 }
 
@@ -183,6 +205,7 @@ int main(void)
     number_names();
     first_sample();
     second_sample();
+    third_sample();
     empty_text();
     lookup_refusals();
     text_limit();

@@ -47,13 +47,10 @@ fn contents(file: Option<&str>) -> io::Result<Vec<u8>> {
 fn list(name: &str, book: &[u8]) -> Result<String, Refusal> {
     let table = Table::read(book)?;
     let headings = table.records().filter(|r| r.kind == Kind::Heading);
-    let (mut line, mut counted) = (1, 0);
     let mut list = String::new();
     for heading in headings {
-        let start = heading.span.start;
-        line += book[counted..start].iter().filter(|&&b| b == b'\n').count();
-        counted = start;
-        let (title, vin) = (title(book, &heading), vin(book, start));
+        let line = heading.line + 1; // an editor counts from 1
+        let (title, vin) = (title(book, &heading), vin(book, heading.span.start));
         list += &format!("{name}:{line}: {title}  {vin}\n");
     }
     Ok(list)

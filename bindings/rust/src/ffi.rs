@@ -3,7 +3,7 @@
 use crate::RECORD_SIZE;
 
 /// `COMALTZEX_VERSION` of the header.
-const VERSION: u32 = 1;
+const VERSION: u32 = 2;
 
 /// The numbers of an answer, as in `comaltzex.h`.
 pub(crate) mod number {

@@ -31,7 +31,7 @@
 //! ```
 //!
 //! [`read`] does the same into a table that the caller lends, and allocates
-//! nothing. A call needs up to 64 KB of stack; a later version may need 96 KB.
+//! nothing. A call needs up to 96 KB of stack.
 
 #![deny(unsafe_code, unsafe_op_in_unsafe_fn, missing_docs)]
 
@@ -54,4 +54,4 @@ pub const DEPTH_LIMIT: usize = 32;
 /// The longest key of a lookup, in bytes.
 pub const KEY_LIMIT: usize = 64;
 /// How many numbers a record takes in a table.
-pub const RECORD_SIZE: usize = 7;
+pub const RECORD_SIZE: usize = 8;

@@ -125,6 +125,16 @@ pub struct Record {
     pub parent: usize,
     /// What more there is to say of its kind; see [`Kind`].
     pub detail: u32,
+    /// The line that it starts at, counted from 0: how many bytes 10 stand before
+    /// its start. An editor counts from 1, so its line is this plus 1.
+    ///
+    /// ```
+    /// let table = comaltzex::Table::read(b"#+TITLE: Orders\n\n* A\n")?;
+    /// let heading = table.get(3).unwrap();
+    /// assert_eq!(format!("orders.org:{}", heading.line + 1), "orders.org:3");
+    /// # Ok::<(), comaltzex::Refusal>(())
+    /// ```
+    pub line: usize,
 }
 
 impl Record {
@@ -152,13 +162,14 @@ impl Record {
     }
 
     pub(crate) fn from_row(row: &[u32; RECORD_SIZE]) -> Record {
-        let [kind, start, end, inner_start, inner_end, parent, detail] = *row;
+        let [kind, start, end, inner_start, inner_end, parent, detail, line] = *row;
         Record {
             kind: Kind::from_number(kind).expect("the library writes known kinds only"),
             span: start as usize..end as usize,
             inner: inner_start as usize..inner_end as usize,
             parent: parent as usize,
             detail,
+            line: line as usize,
         }
     }
 }

@@ -10,18 +10,23 @@ const SECOND: &[u8] = b"* A\n\n:PROPERTIES:\n:VIN: 7\n:END:\n";
 const UNTOUCHED: u32 = 0xABCD_EF01;
 
 #[rustfmt::skip]
-const FIRST_TABLE: [u32; 42] = [
-    1, 0, 35, 0, 35, 0, 0,
-    2, 0, 35, 4, 35, 0, 1,
-    3, 4, 35, 4, 35, 1, 0,
-    5, 4, 32, 17, 25, 2, 0,
-    6, 17, 25, 23, 24, 3, 0,
-    16, 32, 35, 32, 35, 2, 0,
+const FIRST_TABLE: [u32; 6 * RECORD_SIZE] = [
+    1, 0, 35, 0, 35, 0, 0, 0,
+    2, 0, 35, 4, 35, 0, 1, 0,
+    3, 4, 35, 4, 35, 1, 0, 1,
+    5, 4, 32, 17, 25, 2, 0, 1,
+    6, 17, 25, 23, 24, 3, 0, 2,
+    16, 32, 35, 32, 35, 2, 0, 5,
 ];
 
 fn kinds(text: &[u8]) -> Vec<u32> {
     let table = Table::read(text).unwrap();
     table.records().map(|record| record.kind.number()).collect()
+}
+
+fn lines(text: &[u8]) -> Vec<usize> {
+    let table = Table::read(text).unwrap();
+    table.records().map(|record| record.line).collect()
 }
 
 /// Blocks of different names, each in the one before.
@@ -49,6 +54,7 @@ fn records_name_the_numbers() {
             inner: 23..24,
             parent: 3,
             detail: 0,
+            line: 2,
         })
     );
     assert_eq!(records.map(|r| r.kind).last(), Some(Kind::Paragraph));
@@ -91,10 +97,10 @@ fn kinds_have_names() {
 
 #[test]
 fn a_larger_table_keeps_its_rest() {
-    let mut table = [UNTOUCHED; 50];
+    let mut table = [UNTOUCHED; FIRST_TABLE.len() + 9];
     assert_eq!(read(FIRST, &mut table).unwrap().len(), 6);
-    assert_eq!(table[..42], FIRST_TABLE);
-    assert_eq!(table[42..], [UNTOUCHED; 8]);
+    assert_eq!(table[..FIRST_TABLE.len()], FIRST_TABLE);
+    assert_eq!(table[FIRST_TABLE.len()..], [UNTOUCHED; 9]);
 }
 
 #[test]
@@ -120,7 +126,71 @@ fn other_samples() {
     assert_eq!(kinds(b"-----"), [1, 3, 14]);
     assert_eq!(kinds(b"#+:"), [1, 3, 16]);
     assert_eq!(kinds(b"#+::"), [1, 3, 15]);
-    assert_eq!(Table::read(b"").unwrap().numbers(), [1, 0, 0, 0, 0, 0, 0]);
+    assert_eq!(
+        Table::read(b"").unwrap().numbers(),
+        [1, 0, 0, 0, 0, 0, 0, 0]
+    );
+}
+
+#[test]
+fn lines_of_samples() {
+    assert_eq!(lines(FIRST), [0, 0, 1, 1, 2, 5]);
+    assert_eq!(lines(SECOND), [0, 0, 2, 2, 3]);
+    assert_eq!(lines(b"#+begin_src\n* A\n#+end_src\n"), [0, 0, 0, 1, 2, 2]);
+    assert_eq!(lines(b""), [0]);
+}
+
+#[test]
+fn lines_of_headings() {
+    assert_eq!(lines(b"* A\n** B\n* C"), [0, 0, 1, 2]);
+    // the document starts at byte 0, whatever stands there
+    assert_eq!(lines(b"\n* A\n"), [0, 1]);
+    // after the zeroth section; its own section starts on the planning line
+    assert_eq!(lines(b"x\n* A\nCLOSED: [2026-01-05]\n"), [0, 0, 0, 1, 2, 2]);
+}
+
+#[test]
+fn blank_lines_are_counted() {
+    // before a section, after an element, inside a drawer
+    assert_eq!(lines(b"\n \t\nx\n\n\n-----\n"), [0, 2, 2, 5]);
+    assert_eq!(lines(b"* A\n\n\nx\n"), [0, 0, 3, 3]);
+    assert_eq!(lines(b":a:\n\nx\n\n:end:\n\n* A\n"), [0, 0, 0, 2, 6]);
+}
+
+#[test]
+fn byte_13_ends_no_line() {
+    assert_eq!(lines(b"x\r\n\r\n-----\r\n* A\r\n"), [0, 0, 0, 2, 3]);
+    assert_eq!(lines(b"x\r* A\r\r\n-----"), [0, 0, 0, 1]);
+}
+
+#[test]
+fn lines_up_to_the_last_record() {
+    let row = b"|\n";
+    let rows = TEXT_LIMIT / row.len();
+    let document_section_table = [0, 0, 0];
+    let wanted: Vec<usize> = document_section_table.into_iter().chain(0..rows).collect();
+    assert_eq!(lines(&row.repeat(rows)), wanted);
+
+    let heading = b"* A\n\nx\n";
+    let headings = TEXT_LIMIT / heading.len();
+    let heading_section_paragraph = |i| [3 * i, 3 * i + 2, 3 * i + 2];
+    let below = (0..headings).flat_map(heading_section_paragraph);
+    let wanted: Vec<usize> = [0].into_iter().chain(below).collect();
+    assert_eq!(lines(&heading.repeat(headings)), wanted);
+
+    let mut text = vec![b'\n'; TEXT_LIMIT];
+    text[TEXT_LIMIT - 1] = b'x';
+    assert_eq!(lines(&text), [0, TEXT_LIMIT - 1, TEXT_LIMIT - 1]);
+}
+
+#[test]
+fn lines_of_the_shipped_book() {
+    let book = include_bytes!("../../../tests/books/orders.org");
+    for record in Table::read(book).unwrap().records() {
+        let before = &book[..record.span.start];
+        let newlines = before.iter().filter(|&&byte| byte == b'\n').count();
+        assert_eq!(record.line, newlines, "{record:?}");
+    }
 }
 
 #[test]
@@ -130,9 +200,9 @@ fn text_limit() {
     assert_eq!(Table::read(&text), Err(Refusal::TooLong));
     assert_eq!(lookup(&text, 0, b""), Err(LookupRefusal::TooLong));
 
-    let mut table = [UNTOUCHED; 21];
+    let mut table = [UNTOUCHED; 3 * RECORD_SIZE];
     assert_eq!(read(&text, &mut table).unwrap_err(), Refusal::TooLong);
-    assert_eq!(table, [UNTOUCHED; 21]);
+    assert_eq!(table, [UNTOUCHED; 3 * RECORD_SIZE]);
 }
 
 #[test]

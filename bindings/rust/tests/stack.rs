@@ -1,9 +1,9 @@
-//! A stack of 64 KB is enough for every text: the deepest nesting, more of it than is read, and texts of the greatest length.
+//! A stack of 96 KB is enough for every text: the deepest nesting, more of it than is read, and texts of the greatest length.
 
 use comaltzex::{lookup, read, Refusal, DEPTH_LIMIT, RECORD_SIZE, TEXT_LIMIT};
 use std::thread;
 
-const STACK: usize = 64 * 1024;
+const STACK: usize = 96 * 1024;
 
 /// The answer of a reading call that has only a small stack.
 fn read_on_a_small_stack(text: Vec<u8>) -> Result<usize, Refusal> {
