@@ -1,47 +1,47 @@
 -- Laws of line numbers: so many lines further on, the line number is so much greater  [02 order 7].
 -- Assumes nothing.
 use mathlib.Core.Path.{_≡_, refl, sym, ap, _∙_}
+use mathlib.Core.Bool.{Bool}
 use mathlib.Core.List.{List, [], _∷_, _++_}
 use Prim.Native.Nat.{ℕ, zero, suc, _+_, _-_, _≤_, _<_}
 use native.Mathlib.Nat.{zero-add}
 use native.Mathlib.Omega.{arith}
-use lib.Dec.{eqb}
 use lib.ListN.{length, take, drop, length-take, length-drop}
 use lib.Seq.{take-add, take-take}
 use borrow.Table.Steps.{cases}
 use Rattle.text.specs.Bytes.{isNewline}
 use Rattle.text.specs.Lines.{lines, size}
 use Rattle.text.specs.Parts.{part, linesIn, lineIn, LineStart}
-use Rattle.text.specs.LineNumbers.{newlines, lineNumber}
+use Rattle.text.specs.LineNumbers.{count, lineNumber}
 use Rattle.text.proofs.Laws.Lines.{line, rest, line-newline, line-other, take-line, lines-some, size-take-add, size-headLine}
 use Rattle.text.proofs.Laws.Parts.{part-slice, part-take, part-length}
 use Rattle.text.proofs.Laws.LineStarts.{linesIn-start, lines-between}
 
-newlines-append : (x y : List ℕ) → newlines (x ++ y) ≡ newlines x + newlines y
-unfolding newlines
-newlines-append [] y = sym (zero-add (newlines y))
-newlines-append (b ∷ x) y = cases (eqb b 10)
-    (λ h. rw (h, newlines) (omega (arith, newlines-append x y)))
-    (λ h. rw (h, newlines) (newlines-append x y))
+count-append : (f : ℕ → Bool) (x y : List ℕ) → count f (x ++ y) ≡ count f x + count f y
+unfolding count
+count-append f [] y = sym (zero-add (count f y))
+count-append f (b ∷ x) y = cases (f b)
+    (λ h. rw (h, count) (omega (arith, count-append f x y)))
+    (λ h. rw (h, count) (count-append f x y))
 
-newlines-le : (x : List ℕ) → newlines x ≤ length x
-unfolding newlines
-newlines-le [] = omega arith
-newlines-le (b ∷ x) = cases (eqb b 10)
-    (λ h. rw (h, newlines) (omega (arith, newlines-le x)))
-    (λ h. rw (h, newlines) (omega (arith, newlines-le x)))
+count-le : (f : ℕ → Bool) (x : List ℕ) → count f x ≤ length x
+unfolding count
+count-le f [] = omega arith
+count-le f (b ∷ x) = cases (f b)
+    (λ h. rw (h, count) (omega (arith, count-le f x)))
+    (λ h. rw (h, count) (omega (arith, count-le f x)))
 
--- a line that is not the last
-line-newlines : (t : List ℕ) → length (line t) < length t → newlines (line t) ≡ 1
-unfolding newlines isNewline
-line-newlines [] h = absurd (omega arith)
-line-newlines (b ∷ t) h = cases (isNewline b)
-    (λ i. rw (line-newline b t i) (rw (i, newlines)))
-    (λ i. rw (line-other b t i) (rw (i, newlines) (line-newlines t (let j = rw (line-other b t i) at h in omega arith))))
+-- a line that is not the last has one byte 10
+line-newline-one : (t : List ℕ) → length (line t) < length t → count isNewline (line t) ≡ 1
+unfolding count
+line-newline-one [] h = absurd (omega arith)
+line-newline-one (b ∷ t) h = cases (isNewline b)
+    (λ i. rw (line-newline b t i) (rw (i, count)))
+    (λ i. rw (line-other b t i) (rw (i, count) (line-newline-one t (let j = rw (line-other b t i) at h in omega arith))))
 
 -- so many lines from the text's start on, not at its end
-lines-number : (a : ℕ) (t : List ℕ) → size (take a (lines t)) < length t → newlines (take (size (take a (lines t))) t) ≡ a
-unfolding size newlines
+lines-number : (a : ℕ) (t : List ℕ) → size (take a (lines t)) < length t → count isNewline (take (size (take a (lines t))) t) ≡ a
+unfolding size count
 lines-number zero t h = refl
 lines-number (suc a) t h =
     let step = lines-some t (omega arith) in
@@ -49,12 +49,12 @@ lines-number (suc a) t h =
     let few : length (line t) + k < length t = rw step at h in
     let more = lines-number a (rest t) (omega (arith, length-drop (length (line t)) t)) in
     rw step
-    (rw (take-add (length (line t)) k t, take-line t, newlines-append (line t) (take k (rest t)))
-    (omega (arith, line-newlines t (omega arith), more)))
+    (rw (take-add (length (line t)) k t, take-line t, count-append isNewline (line t) (take k (rest t)))
+    (omega (arith, line-newline-one t (omega arith), more)))
 
 module _ (s : List ℕ) where
   pub lineNumber-zero : lineNumber s 0 ≡ 0
-  unfolding lineNumber newlines
+  unfolding lineNumber count
   lineNumber-zero = refl
 
   lineNumber-start : (p : ℕ) (h : LineStart s p) → p < length s → lineNumber s p ≡ h .number
@@ -62,13 +62,13 @@ module _ (s : List ℕ) where
   lineNumber-start p h i = rw (h .is) (lines-number (h .number) s (omega (arith, h .is)))
 
   -- between two bytes
-  lineNumber-part : (p k : ℕ) → lineNumber s (p + k) ≡ lineNumber s p + newlines (take k (drop p s))
+  lineNumber-part : (p k : ℕ) → lineNumber s (p + k) ≡ lineNumber s p + count isNewline (take k (drop p s))
   unfolding lineNumber
-  lineNumber-part p k = rw (take-add p k s) (newlines-append (take p s) (take k (drop p s)))
+  lineNumber-part p k = rw (take-add p k s) (count-append isNewline (take p s) (take k (drop p s)))
 
   pub lineNumber-le : (p : ℕ) → lineNumber s p ≤ p
   unfolding lineNumber
-  lineNumber-le p = omega (arith, newlines-le (take p s), length-take p s)
+  lineNumber-le p = omega (arith, count-le isNewline (take p s), length-take p s)
 
   -- n of the lines from byte p up to byte e further on, and before e
   pub lineNumber-in : (p e n : ℕ) → p ≤ e → e ≤ length s → p + size (take n (linesIn s p e)) < e
