@@ -133,6 +133,11 @@ fn the_programs_room() {
 }
 
 #[test]
+fn a_byte_10_at_the_start_is_not_before_it() {
+    assert_eq!(table(b"\n"), [[1, 0, 1, 0, 1, 0, 0, 0]]);
+}
+
+#[test]
 fn byte_13_ends_no_line() {
     let expected = [
         [1, 0, 5, 0, 5, 0, 0, 0],
