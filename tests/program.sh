@@ -1,6 +1,6 @@
 #!/bin/sh
 # Runs the program on document 01's samples, on the books, at the limits and where reading or writing fails. All that it prints, on
-# standard output and on standard error, is held to document 01's words or to the plain reader's table, byte for byte.
+# standard output and on standard error, is held to the documents' words or to the plain reader's table, byte for byte.
 #     sh tests/program.sh [PROGRAM]          (target/bin/orgtable, or another one, to see this script fail)
 set -eu
 program=${1:-$(dirname "$0")/../target/bin/orgtable}
@@ -82,20 +82,20 @@ rows() {
     awk -v n="$1" 'BEGIN { for (i = 0; i < n; i++) print "|" }'
 }
 
-# document 01, "Sample readings"
+# document 01, "Sample readings", with the line numbers of document 02, order 7
 printf '* A\n:PROPERTIES:\n:VIN: 7\n:END:\n\nhi\n' >"$room/first"
 cp "$room/first" "$text"
 cat >"$wanted" <<'END'
-1 0 35 0 35 0 0
-2 0 35 4 35 0 1
-3 4 35 4 35 1 0
-5 4 32 17 25 2 0
-6 17 25 23 24 3 0
-16 32 35 32 35 2 0
+1 0 35 0 35 0 0 0
+2 0 35 4 35 0 1 0
+3 4 35 4 35 1 0 1
+5 4 32 17 25 2 0 1
+6 17 25 23 24 3 0 2
+16 32 35 32 35 2 0 5
 END
 prints 'first sample'
 : >"$text"
-echo '1 0 0 0 0 0 0' >"$wanted"
+echo '1 0 0 0 0 0 0 0' >"$wanted"
 prints 'empty text'
 prints_kinds '* A\n\n:PROPERTIES:\n:VIN: 7\n:END:\n' '1 2 3 7 16'
 prints_kinds '#+begin_src\n* A\n#+end_src\n' '1 3 16 2 3 16'
@@ -108,6 +108,9 @@ prints_kinds '* A\n:PROPERTIES:\n:A++:\n:END:\n' '1 2 3 7 16'
 prints_kinds '* A\n:PROPERTIES:\n:A+:\n:END:\n' '1 2 3 5 6'
 prints_kinds '#+:' '1 3 16'
 prints_kinds '#+::' '1 3 15'
+printf '\r\n\ra\n' >"$text"
+printf '1 0 5 0 5 0 0 0\n3 2 5 2 5 0 0 1\n16 2 5 2 5 1 0 1\n' >"$wanted"
+prints 'byte 13 ends no line'
 
 for book in tests/books/*.org; do
     cp "$book" "$text"
@@ -116,8 +119,11 @@ done
 
 # the limits
 head -c 65536 /dev/zero | tr '\0' 'x' >"$text"
-printf '1 0 65536 0 65536 0 0\n3 0 65536 0 65536 0 0\n16 0 65536 0 65536 1 0\n' >"$wanted"
+printf '1 0 65536 0 65536 0 0 0\n3 0 65536 0 65536 0 0 0\n16 0 65536 0 65536 1 0 0\n' >"$wanted"
 prints '65,536 bytes'
+{ head -c 65535 /dev/zero | tr '\0' '\n' && printf x; } >"$text"
+printf '1 0 65536 0 65536 0 0 0\n3 65535 65536 65535 65536 0 0 65535\n16 65535 65536 65535 65536 1 0 65535\n' >"$wanted"
+prints 'the greatest line number'
 head -c 65537 /dev/zero | tr '\0' 'x' >"$text"
 echo 'refused 1' >"$wanted"
 prints '65,537 bytes'
@@ -128,13 +134,13 @@ prints_plain 'depth 32'
 nested 33 >"$text"
 echo 'refused 2' >"$wanted"
 prints 'depth 33'
-rows 2338 >"$text"
-echo 'refused 3 2341' >"$wanted"
-prints '2,341 records'
-rows 2337 >"$text"
-printf '1 0 4674 0 4674 0 0\n3 0 4674 0 4674 0 0\n10 0 4674 0 4674 1 0\n' >"$wanted"
-awk 'BEGIN { for (i = 0; i < 4674; i += 2) print 11, i, i + 2, i, i + 1, 2, 0 }' >>"$wanted"
-prints '2,340 records'
+rows 2046 >"$text"
+echo 'refused 3 2049' >"$wanted"
+prints '2,049 records'
+rows 2045 >"$text"
+printf '1 0 4090 0 4090 0 0 0\n3 0 4090 0 4090 0 0 0\n10 0 4090 0 4090 1 0 0\n' >"$wanted"
+awk 'BEGIN { for (i = 0; i < 2045; i++) print 11, 2 * i, 2 * i + 2, 2 * i, 2 * i + 1, 2, 0, i }' >>"$wanted"
+prints '2,048 records'
 cp "$wanted" "$room/table"
 
 # reading fails: no table

@@ -1,10 +1,11 @@
 ;;; table.el --- org-element's tree as orgtable prints it  -*- lexical-binding: t; -*-
 
 ;; Usage: emacs --batch -Q -l table.el --eval '(table-print "FILE")'
-;; Prints a line of seven numbers for each element of FILE: kind, start, end, inner start, inner end, parent's
-;; index, detail. Spans are what org-element says, counted in bytes from 0. An element of a kind that document 01
-;; does not have is printed with kind 0. In one thing the table is document 01's and not org-element's: blank lines at
-;; the end of a section or heading are also those of the last in it.
+;; Prints a line of eight numbers for each element of FILE: kind, start, end, inner start, inner end, parent's
+;; index, detail, line number. Spans are what org-element says, counted in bytes from 0, and line numbers what Emacs
+;; says, counted from 0 too. An element of a kind that document 01 does not have is printed with kind 0. In one thing the
+;; table is document 01's and not org-element's: blank lines at the end of a section or heading are also those of the
+;; last in it.
 
 (require 'org)
 (require 'org-element)
@@ -79,19 +80,19 @@
           (t (org-element-property :end element)))))
 
 (defun table-row (element parent)
-  "The seven numbers of ELEMENT, whose parent's record has the index PARENT."
+  "The eight numbers of ELEMENT, whose parent's record has the index PARENT."
   (let* ((type (org-element-type element))
          (known (or (and (not (eq (org-element-property :type element) 'table.el)) (cdr (assq type table-kinds))) '(0 0)))
-         (document (eq type 'org-data))
+         (begin (if (eq type 'org-data) (point-min) (org-element-property :begin element)))
          (inner (table-inner element))
          (detail (pcase type
                    ('headline (org-element-property :level element))
                    ('table-row (if (eq (org-element-property :type element) 'rule) 1 0))
                    (_ (nth 1 known)))))
     (list (nth 0 known)
-          (1- (if document (point-min) (org-element-property :begin element)))
-          (1- (table-end element))
-          (1- (car inner)) (1- (cdr inner)) parent detail)))
+          (1- begin) (1- (table-end element))
+          (1- (car inner)) (1- (cdr inner)) parent detail
+          (1- (line-number-at-pos begin)))))
 
 (defun table-rows (element parent index)
   "The rows of ELEMENT, which has the index INDEX, and of all that it holds, the last first."

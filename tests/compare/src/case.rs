@@ -3,11 +3,19 @@
 use std::fs;
 use std::path::Path;
 
+use plain_reader::NUMBERS_OF_A_RECORD;
+
 use crate::escape::unescape;
 use crate::subject::{LookupAnswer, ReadAnswer};
 
-/// The seven numbers of a record.
-pub type Numbers = [u32; 7];
+/// The numbers of a record.
+pub type Numbers = [u32; NUMBERS_OF_A_RECORD];
+
+/// A record's numbers without the last, its line number.
+const WITHOUT_LINE_NUMBER: usize = NUMBERS_OF_A_RECORD - 1;
+
+/// The place of a record's start among its numbers.
+const START: usize = 1;
 
 /// A text and what is expected of it.
 pub struct Case {
@@ -17,7 +25,7 @@ pub struct Case {
 }
 
 pub enum Expectation {
-    Table(Vec<Numbers>),
+    Table(Vec<ExpectedRecord>),
     Kinds(Vec<u32>),
     Count(usize),
     OfKind {
@@ -26,7 +34,7 @@ pub enum Expectation {
     },
     Record {
         index: usize,
-        numbers: Numbers,
+        record: ExpectedRecord,
     },
     Refused(u32),
     Length {
@@ -39,6 +47,26 @@ pub enum Expectation {
         answer: LookupAnswer,
         value: Option<Vec<u8>>,
     },
+}
+
+/// A record as a case writes it: with its line number or without.
+pub struct ExpectedRecord(Vec<u32>);
+
+impl ExpectedRecord {
+    /// All its numbers, in a case with that text.
+    pub fn numbers(&self, text: &[u8]) -> Vec<u32> {
+        let mut numbers = self.0.clone();
+        if numbers.len() == WITHOUT_LINE_NUMBER {
+            numbers.push(newlines_before(text, numbers[START]));
+        }
+        numbers
+    }
+}
+
+/// "how many bytes 10 stand before" a byte, which a wrong case may have past the text.
+fn newlines_before(text: &[u8], place: u32) -> u32 {
+    let before = text.iter().take(place as usize);
+    before.filter(|byte| **byte == 10).count() as u32
 }
 
 /// The cases of one file, or what is wrong with it and on which line.
@@ -141,7 +169,7 @@ fn add_numbered(from: usize, to: usize, piece: &str, text: &mut Vec<u8>) -> Resu
 
 fn add_record(line: &str, case: &mut Case) -> Result<(), String> {
     match case.expectations.last_mut() {
-        Some(Expectation::Table(records)) => records.push(numbers(line)?),
+        Some(Expectation::Table(records)) => records.push(expected_record(line)?),
         _ => return Err("a record outside a table".to_string()),
     }
     Ok(())
@@ -167,7 +195,7 @@ fn expectation(word: &str, rest: &str) -> Result<Expectation, String> {
             let (index, record) = rest.split_once(" -> ").ok_or("record INDEX -> NUMBERS")?;
             Expectation::Record {
                 index: number(index)?,
-                numbers: numbers(record)?,
+                record: expected_record(record)?,
             }
         }
         "length" => {
@@ -226,8 +254,52 @@ fn number<N: std::str::FromStr>(word: &str) -> Result<N, String> {
     word.parse().map_err(|_| format!("{word:?} is no number"))
 }
 
-fn numbers(line: &str) -> Result<Numbers, String> {
-    let list: Vec<u32> = line.split(' ').map(number).collect::<Result<_, _>>()?;
-    list.try_into()
-        .map_err(|_| "a record has seven numbers".to_string())
+fn expected_record(line: &str) -> Result<ExpectedRecord, String> {
+    let numbers: Vec<u32> = line.split(' ').map(number).collect::<Result<_, _>>()?;
+    match numbers.len() {
+        WITHOUT_LINE_NUMBER | NUMBERS_OF_A_RECORD => Ok(ExpectedRecord(numbers)),
+        count => Err(format!(
+            "a record has {NUMBERS_OF_A_RECORD} numbers, or {WITHOUT_LINE_NUMBER} without its line \
+             number; here are {count}"
+        )),
+    }
+}
+
+#[cfg(test)]
+mod tests {
+    use super::*;
+
+    fn numbers(line: &str, text: &[u8]) -> Result<Vec<u32>, String> {
+        expected_record(line).map(|record| record.numbers(text))
+    }
+
+    #[test]
+    fn a_line_number_left_out_is_worked_out() {
+        let expected = Ok(vec![2, 3, 9, 8, 9, 0, 1, 2]);
+        assert_eq!(numbers("2 3 9 8 9 0 1", b"\n\r\n* A\n\n"), expected);
+    }
+
+    #[test]
+    fn a_line_number_past_the_text_is_that_of_its_end() {
+        assert_eq!(
+            numbers("1 9 9 9 9 0 0", b"a\n"),
+            Ok(vec![1, 9, 9, 9, 9, 0, 0, 1])
+        );
+    }
+
+    #[test]
+    fn a_written_line_number_stays() {
+        assert_eq!(
+            numbers("1 0 2 0 2 0 0 5", b"a\n"),
+            Ok(vec![1, 0, 2, 0, 2, 0, 0, 5])
+        );
+    }
+
+    #[test]
+    fn another_count_of_numbers_is_refused() {
+        for line in ["1", "1 0 0 0 0 0", "1 0 0 0 0 0 0 0 0"] {
+            let told = numbers(line, b"").unwrap_err();
+            assert!(told.starts_with("a record has 8 numbers, or 7"), "{told}");
+        }
+    }
 }

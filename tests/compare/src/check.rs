@@ -1,6 +1,6 @@
 //! One text against both readers: every answer of the library must be the plain reader's.
 
-use plain_reader::{Reading, Record};
+use plain_reader::{Reading, Record, NUMBERS_OF_A_RECORD};
 
 use crate::escape::escape;
 use crate::proper::check_proper;
@@ -51,13 +51,15 @@ fn records_of(reading: &Reading) -> &[Record] {
     }
 }
 
-/// Table lengths around what the reading needs, multiples of seven and others.
+/// Table lengths around what the reading needs, multiples of a record's length and others.
 fn table_lengths(reading: &Reading, random: &mut Random) -> Vec<usize> {
     match reading {
-        Reading::TooLong | Reading::TooDeep => vec![0, random.between(1, 700)],
+        Reading::TooLong | Reading::TooDeep => {
+            vec![0, random.between(1, 100 * NUMBERS_OF_A_RECORD)]
+        }
         Reading::Table(records) => {
-            let need = records.len() * 7;
-            let more = need + random.between(1, 13);
+            let need = records.len() * NUMBERS_OF_A_RECORD;
+            let more = need + random.between(1, 2 * NUMBERS_OF_A_RECORD - 1);
             let less = random.below(need);
             vec![need, need - 1, more, less]
         }
@@ -85,7 +87,7 @@ fn check_reading(
         Err(format!(
             "reading, table of {length} numbers, answer {seen:?}: number {place} (record {}):\n  \
              plain reader {:?}\n  library      {:?}",
-            place / 7,
+            place / NUMBERS_OF_A_RECORD,
             record_around(&expected_table, place),
             record_around(&table, place),
         ))
@@ -93,8 +95,8 @@ fn check_reading(
 }
 
 fn record_around(table: &[u32], place: usize) -> &[u32] {
-    let start = place / 7 * 7;
-    &table[start..table.len().min(start + 7)]
+    let start = place - place % NUMBERS_OF_A_RECORD;
+    &table[start..table.len().min(start + NUMBERS_OF_A_RECORD)]
 }
 
 fn check_lookup(text: &[u8], at: usize, key: &[u8], tally: &mut Tally) -> Result<(), String> {

@@ -1,4 +1,5 @@
-//! Document 01, "When a finished table is a proper reading": the clauses that need no line rule.
+//! Document 01, "When a finished table is a proper reading": the clauses that need no line rule, and
+//! document 02, order 7, by which every "proper reading gains an eighth number".
 //!
 //! They judge a table by the text and its own numbers alone, so they would also show a mistake that
 //! the plain reader and the library have in common.
@@ -17,7 +18,8 @@ const ROW: u32 = 11;
 
 /// The first clause that the table fails, in words.
 pub fn check_proper(text: &[u8], records: &[Record]) -> Result<(), String> {
-    let whole = Some([DOCUMENT, 0, text.len() as u32, 0, text.len() as u32, 0, 0]);
+    let end = text.len() as u32;
+    let whole = Some([DOCUMENT, 0, end, 0, end, 0, 0, 0]);
     require(
         records.first().map(Record::numbers) == whole,
         "record 0 is the document",
@@ -41,7 +43,8 @@ pub fn check_proper(text: &[u8], records: &[Record]) -> Result<(), String> {
         let covered = children_cover(text, records, index);
         require(covered, "children cover the inner span", index)?;
     }
-    check_headings(text, records)
+    check_headings(text, records)?;
+    check_line_numbers(text, records)
 }
 
 fn require(holds: bool, clause: &str, index: usize) -> Result<(), String> {
@@ -143,6 +146,16 @@ fn check_headings(text: &[u8], records: &[Record]) -> Result<(), String> {
         let next = later.find(|other| other.detail <= heading.detail);
         let end = next.map_or(text.len() as u32, |other| other.start);
         require(heading.end == end, "where a heading ends", index)?;
+    }
+    Ok(())
+}
+
+/// "an eighth number: how many bytes 10 stand before the record's start".
+fn check_line_numbers(text: &[u8], records: &[Record]) -> Result<(), String> {
+    let newlines: Vec<usize> = (0..text.len()).filter(|at| text[*at] == 10).collect();
+    for (index, record) in records.iter().enumerate() {
+        let before = newlines.partition_point(|at| *at < record.start as usize);
+        require(record.line_number as usize == before, "line number", index)?;
     }
     Ok(())
 }

@@ -3,7 +3,9 @@
 use std::cell::OnceCell;
 use std::fmt::Debug;
 
-use crate::case::{Case, Expectation, Numbers};
+use plain_reader::NUMBERS_OF_A_RECORD;
+
+use crate::case::{Case, Expectation, ExpectedRecord, Numbers};
 use crate::escape::escape;
 use crate::subject::{fresh_table, LookupAnswer, ReadAnswer, Subject};
 
@@ -39,11 +41,12 @@ impl Run<'_> {
                 let seen = self.table()?.iter().filter(of_kind).count();
                 same(&format!("records of kind {kind}"), count, &seen)
             }
-            Expectation::Record { index, numbers } => {
-                let seen = self.table()?.get(*index);
-                same(&format!("record {index}"), &Some(numbers), &seen)
+            Expectation::Record { index, record } => {
+                let seen = self.table()?.get(*index).map(Numbers::as_slice);
+                let numbers = record.numbers(self.text);
+                same(&format!("record {index}"), &Some(&numbers[..]), &seen)
             }
-            Expectation::Refused(number) => self.check_length(7, (*number, 0)),
+            Expectation::Refused(number) => self.check_length(NUMBERS_OF_A_RECORD, (*number, 0)),
             Expectation::Length { length, answer } => self.check_length(*length, *answer),
             Expectation::Lookup {
                 at,
@@ -65,22 +68,25 @@ impl Run<'_> {
         same("number without room", &3, &number)?;
         let at_most = self.text.len() + 3;
         same("count at most", &at_most, &count.max(at_most))?;
-        let mut table = fresh_table(count * 7);
+        let mut table = fresh_table(count * NUMBERS_OF_A_RECORD);
         let answer = (self.subject.read)(self.text, &mut table);
         same("answer", &(0, count), &answer)?;
-        Ok(table.chunks_exact(7).map(numbers_of).collect())
+        let records = table.chunks_exact(NUMBERS_OF_A_RECORD);
+        Ok(records.map(numbers_of).collect())
     }
 
     /// The expected table, and the answers in rooms that are one less and a little more.
-    fn check_table(&self, expected: &[Numbers]) -> Result<(), String> {
+    fn check_table(&self, expected: &[ExpectedRecord]) -> Result<(), String> {
         let records = self.table()?;
         let count = expected.len();
         same("count", &count, &records.len())?;
         for (index, (expected, seen)) in expected.iter().zip(records).enumerate() {
-            same(&format!("record {index}"), expected, seen)?;
+            let numbers = expected.numbers(self.text);
+            same(&format!("record {index}"), &numbers[..], seen)?;
         }
-        self.check_length(count * 7 - 1, (3, count))?;
-        self.check_length(count * 7 + 5, (0, count))
+        let need = count * NUMBERS_OF_A_RECORD;
+        self.check_length(need - 1, (3, count))?;
+        self.check_length(need + 5, (0, count))
     }
 
     /// The answer when a table of `length` numbers is lent, and the numbers left as before.
@@ -89,7 +95,11 @@ impl Run<'_> {
         let mut table = before.clone();
         let seen = (self.subject.read)(self.text, &mut table);
         same(&format!("answer in length {length}"), &answer, &seen)?;
-        let written = if answer.0 == 0 { answer.1 * 7 } else { 0 };
+        let written = if answer.0 == 0 {
+            answer.1 * NUMBERS_OF_A_RECORD
+        } else {
+            0
+        };
         let changed = (written..length).find(|place| before[*place] != table[*place]);
         same(
             &format!("changed number in length {length}"),
@@ -114,7 +124,7 @@ impl Run<'_> {
 }
 
 fn numbers_of(record: &[u32]) -> Numbers {
-    let mut numbers = [0; 7];
+    let mut numbers = [0; NUMBERS_OF_A_RECORD];
     numbers.copy_from_slice(record);
     numbers
 }

@@ -27,7 +27,7 @@ impl Reading {
     }
 }
 
-/// "Room is the table's length divided by 7, rounded down."
+/// Order 7: "Room is now the length divided by 8", "rounded down" as before.
 fn room(table: &[u32]) -> usize {
     table.len() / NUMBERS_OF_A_RECORD
 }

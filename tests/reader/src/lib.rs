@@ -1,14 +1,14 @@
-//! A plain reader of Org order books, written from document 01 alone.
+//! A plain reader of Org order books, written from documents 01 and 02 alone.
 //!
 //! It shares nothing with the proved reader and is what that one is compared with. It is meant to
-//! be checked against document 01 by eye, sentence by sentence, so it is simple before it is fast:
+//! be checked against the documents by eye, sentence by sentence, so it is simple before it is fast:
 //! a text is split into lines, and every rule is a question about lines.
 //!
-//! | Part of document 01 | Module |
+//! | Part of document 01, order of document 02 | Module |
 //! |---|---|
 //! | "Bytes and lines" | `line` |
 //! | "What starts at a line" | `rules` |
-//! | "A record", "Headings and sections first" | `reading` |
+//! | "A record", "Headings and sections first"; order 7 | `reading` |
 //! | "Numbers of an answer" | `answer`, `lookup` |
 
 mod answer;
@@ -30,5 +30,6 @@ pub const GREATEST_DEPTH: usize = 32;
 /// "over 64 bytes" makes a key a bad one.
 pub const LONGEST_KEY: usize = 64;
 
-/// "Seven numbers: kind, start, end, inner start, inner end, parent's index, detail."
-pub const NUMBERS_OF_A_RECORD: usize = 7;
+/// "Seven numbers: kind, start, end, inner start, inner end, parent's index, detail." By order 7
+/// "every record [..] gains an eighth number".
+pub const NUMBERS_OF_A_RECORD: usize = 8;

@@ -1,4 +1,5 @@
-//! Document 01, "A record" and "Headings and sections first": the table of a text.
+//! Document 01, "A record" and "Headings and sections first", and document 02, order 7: the table of
+//! a text.
 
 use crate::line::{lines_of, Line, Span};
 use crate::rules::{element_at, node_property, row_detail, Element};
@@ -21,7 +22,8 @@ const HORIZONTAL_RULE: u32 = 14;
 const KEYWORD: u32 = 15;
 const PARAGRAPH: u32 = 16;
 
-/// "Seven numbers: kind, start, end, inner start, inner end, parent's index, detail."
+/// "Seven numbers: kind, start, end, inner start, inner end, parent's index, detail." Order 7: "an
+/// eighth number: how many bytes 10 stand before the record's start".
 #[derive(Clone, Copy, Debug, PartialEq, Eq)]
 pub struct Record {
     pub kind: u32,
@@ -31,6 +33,7 @@ pub struct Record {
     pub inner_end: u32,
     pub parent: u32,
     pub detail: u32,
+    pub line_number: u32,
 }
 
 impl Record {
@@ -44,6 +47,7 @@ impl Record {
             self.inner_end,
             self.parent,
             self.detail,
+            self.line_number,
         ]
     }
 }
@@ -63,8 +67,8 @@ pub fn read(text: &[u8]) -> Reading {
         return Reading::TooLong;
     }
     let mut reader = Reader {
+        text,
         lines: lines_of(text),
-        length: text.len(),
         records: Vec::new(),
         nesting: 0,
     };
@@ -76,8 +80,8 @@ pub fn read(text: &[u8]) -> Reading {
 }
 
 struct Reader<'t> {
+    text: &'t [u8],
     lines: Vec<Line<'t>>,
-    length: usize,
     records: Vec<Record>,
     /// The greatest depth of a drawer or greater block met so far.
     nesting: usize,
@@ -98,7 +102,7 @@ impl Reader<'_> {
     fn document(&mut self) {
         let whole = Span {
             start: 0,
-            end: self.length,
+            end: self.text.len(),
         };
         self.record(DOCUMENT, whole, whole, 0, 0);
         let first_heading = self.next_heading_line(0);
@@ -141,7 +145,7 @@ impl Reader<'_> {
         let ender = later
             .filter(|line| line.is_heading())
             .find(|line| line.stars <= stars);
-        ender.map_or(self.length, |line| line.span.start)
+        ender.map_or(self.text.len(), |line| line.span.start)
     }
 
     fn next_heading_line(&self, from: usize) -> usize {
@@ -292,11 +296,12 @@ impl Reader<'_> {
 
     fn line_start(&self, index: usize) -> usize {
         let line = self.lines.get(index);
-        line.map_or(self.length, |line| line.span.start)
+        line.map_or(self.text.len(), |line| line.span.start)
     }
 
     /// Appends a record and gives its index.
     fn record(&mut self, kind: u32, span: Span, inner: Span, parent: usize, detail: u32) -> usize {
+        let line_number = self.line_number(span.start);
         self.records.push(Record {
             kind,
             start: span.start as u32,
@@ -305,7 +310,19 @@ impl Reader<'_> {
             inner_end: inner.end as u32,
             parent: parent as u32,
             detail,
+            line_number,
         });
         self.records.len() - 1
+    }
+
+    /// Order 7: "how many bytes 10 stand before the record's start". No record starts before the one
+    /// written last, so that one's count is carried on.
+    fn line_number(&self, start: usize) -> u32 {
+        let (from, before) = match self.records.last() {
+            Some(last) => (last.start as usize, last.line_number),
+            None => (0, 0),
+        };
+        let newlines = self.text[from..start].iter().filter(|byte| **byte == 10);
+        before + newlines.count() as u32
     }
 }

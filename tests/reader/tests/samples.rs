@@ -1,6 +1,6 @@
-//! Document 01, "Sample readings".
+//! Document 01, "Sample readings", with the line numbers of document 02, order 7.
 
-use plain_reader::{answer, lookup, read, Reading};
+use plain_reader::{answer, lookup, read, Reading, NUMBERS_OF_A_RECORD};
 
 /// The lines of `text` with byte 10 after each.
 fn book(lines: &[&str]) -> Vec<u8> {
@@ -12,7 +12,7 @@ fn book(lines: &[&str]) -> Vec<u8> {
         .collect()
 }
 
-fn table(text: &[u8]) -> Vec<[u32; 7]> {
+fn table(text: &[u8]) -> Vec<[u32; NUMBERS_OF_A_RECORD]> {
     match read(text) {
         Reading::Table(records) => records.iter().map(|record| record.numbers()).collect(),
         refusal => panic!("{refusal:?}"),
@@ -35,12 +35,12 @@ fn an_order_with_its_drawer() {
     let text = book(&["* A", ":PROPERTIES:", ":VIN: 7", ":END:", "", "hi"]);
     assert_eq!(text.len(), 35);
     let expected = [
-        [1, 0, 35, 0, 35, 0, 0],
-        [2, 0, 35, 4, 35, 0, 1],
-        [3, 4, 35, 4, 35, 1, 0],
-        [5, 4, 32, 17, 25, 2, 0],
-        [6, 17, 25, 23, 24, 3, 0],
-        [16, 32, 35, 32, 35, 2, 0],
+        [1, 0, 35, 0, 35, 0, 0, 0],
+        [2, 0, 35, 4, 35, 0, 1, 0],
+        [3, 4, 35, 4, 35, 1, 0, 1],
+        [5, 4, 32, 17, 25, 2, 0, 1],
+        [6, 17, 25, 23, 24, 3, 0, 2],
+        [16, 32, 35, 32, 35, 2, 0, 5],
     ];
     assert_eq!(table(&text), expected);
     assert_eq!(lookup(&text, 0, b"vin"), (0, 23, 24));
@@ -63,7 +63,7 @@ fn a_heading_inside_an_open_block() {
 
 #[test]
 fn the_empty_text() {
-    assert_eq!(table(b""), [[1, 0, 0, 0, 0, 0, 0]]);
+    assert_eq!(table(b""), [[1, 0, 0, 0, 0, 0, 0, 0]]);
 }
 
 #[test]
@@ -110,15 +110,52 @@ fn the_greatest_depth() {
 #[test]
 fn room_exact_and_one_less() {
     let text = book(&["* A", ":PROPERTIES:", ":VIN: 7", ":END:", "", "hi"]);
-    let mut short = [9; 41];
+    let mut short = [9; 47];
     assert_eq!(answer(&text, &mut short), (3, 6));
-    assert_eq!(short, [9; 41]);
-    let mut exact = [9; 42];
+    assert_eq!(short, [9; 47]);
+    let mut exact = [9; 48];
     assert_eq!(answer(&text, &mut exact), (0, 6));
     assert_eq!(exact.as_slice(), table(&text).concat());
-    let mut longer = [9; 44];
+    let mut longer = [9; 50];
     assert_eq!(answer(&text, &mut longer), (0, 6));
-    assert_eq!(longer[42..], [9; 2]);
+    assert_eq!(longer[48..], [9; 2]);
+}
+
+#[test]
+fn the_programs_room() {
+    let mut table = [9; 16_384];
+    assert_eq!(answer(&b"|\n".repeat(2_046), &mut table), (3, 2_049));
+    assert_eq!(answer(&b"|\n".repeat(2_045), &mut table), (0, 2_048));
+    assert_eq!(
+        table[16_376..],
+        [11, 4_088, 4_090, 4_088, 4_089, 2, 0, 2_044]
+    );
+}
+
+#[test]
+fn a_byte_10_at_the_start_is_not_before_it() {
+    assert_eq!(table(b"\n"), [[1, 0, 1, 0, 1, 0, 0, 0]]);
+}
+
+#[test]
+fn byte_13_ends_no_line() {
+    let expected = [
+        [1, 0, 5, 0, 5, 0, 0, 0],
+        [3, 2, 5, 2, 5, 0, 0, 1],
+        [16, 2, 5, 2, 5, 1, 0, 1],
+    ];
+    assert_eq!(table(b"\r\n\ra\n"), expected);
+}
+
+#[test]
+fn headings_have_the_line_numbers_of_their_lines() {
+    let expected = [
+        [1, 0, 12, 0, 12, 0, 0, 0],
+        [2, 0, 9, 4, 9, 0, 1, 0],
+        [2, 4, 9, 9, 9, 1, 2, 1],
+        [2, 9, 12, 12, 12, 0, 1, 2],
+    ];
+    assert_eq!(table(b"* A\n** B\n* C"), expected);
 }
 
 /// "Easy wrong turns": one text for each.
@@ -158,11 +195,11 @@ mod easy_wrong_turns {
     fn blank_lines_go_to_the_last_element() {
         let text = book(&["* A", "a", "", "* B"]);
         let expected = [
-            [1, 0, 11, 0, 11, 0, 0],
-            [2, 0, 7, 4, 7, 0, 1],
-            [3, 4, 7, 4, 7, 1, 0],
-            [16, 4, 7, 4, 6, 2, 0],
-            [2, 7, 11, 11, 11, 0, 1],
+            [1, 0, 11, 0, 11, 0, 0, 0],
+            [2, 0, 7, 4, 7, 0, 1, 0],
+            [3, 4, 7, 4, 7, 1, 0, 1],
+            [16, 4, 7, 4, 6, 2, 0, 1],
+            [2, 7, 11, 11, 11, 0, 1, 3],
         ];
         assert_eq!(table(&text), expected);
     }

@@ -1,11 +1,11 @@
 //! `plain-table`: prints the plain reader's table of standard input as document 01 says of the
-//! program: "a line" of seven numbers a record, or the refusal.
+//! program: a line of numbers for each record, or the refusal.
 
 use std::io::{self, Read, Write};
 
 use plain_reader::{answer, NUMBERS_OF_A_RECORD};
 
-/// "a table of 16,384 numbers (2,340 records)".
+/// "a table of 16,384 numbers", which by order 7 is room for 2,048 records.
 const TABLE_LENGTH: usize = 16_384;
 
 fn main() -> io::Result<()> {
