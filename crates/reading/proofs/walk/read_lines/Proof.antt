@@ -63,9 +63,7 @@ module _ (c : tie.After-line-at Inv-loop μ-loop) where
 
 line-record-requires : tie.Need-line-record-requires Inv-loop μ-loop
 line-record-requires c κs =
-    let at-line = c in
-    let loop = at-line .before .before .loop in
-    (here at-line, loop .inv .4 (at-line .before .loop-test .taken) ∙ ap (lineNumber _) (sym (lineSpan-start _ _ _ _ (at-line .line-at .ensures))))
+    (here c, c .before .before .loop .inv .4 (c .before .loop-test .taken) ∙ ap (lineNumber _) (sym (lineSpan-start _ _ _ _ (c .line-at .ensures))))
 
 emit-requires : tie.Need-emit-requires Inv-loop μ-loop
 emit-requires c κs =
