@@ -4,14 +4,12 @@ ghost use Prim.Native.Nat.{_+_, _*_, _≤_, _<_};
 ghost use lib.ListN.{length};
 ghost use Rattle.text.specs.Limits.{depthLimit, textLimit};
 ghost use Rattle.text.specs.LineNumbers.{lineNumber};
-ghost use Rattle.text.specs.Parts.{linesIn, nextLine, LineStart};
-ghost use Rattle.rules.specs.Headings.{isHeading};
-ghost use Rattle.rules.specs.Places.{placeAt};
+ghost use Rattle.text.specs.Parts.{linesIn};
 ghost use Rattle.rules.specs.Findings.{LineOf, InScope, NoEnd};
 ghost use Rattle.table.specs.Makers.{childRecord};
 ghost use Rattle.table.specs.Nesting.{depthIn};
 ghost use Rattle.reading.specs.Walk.{Takes, entriesFrom, elementsTo, linesTo, sectionOf, sectionEntries, far};
-ghost use Rattle.reading.specs.Walk.{scopeOf, innerLine, NumberOf, RangeIn, ElementIn, StepAt, recordOf, withHeld};
+ghost use Rattle.reading.specs.Walk.{scopeOf, innerLine, NumberOf, RangeIn, ElementIn, StepAt, SectionAt, recordOf, withHeld};
 use crate::sink::Sink;
 use crate::sink::emit;
 use rules::closer::may_end;
@@ -302,7 +300,7 @@ pub fn read_section(
     table: &mut [u32],
     sink: Sink,
 ) -> Reached
-    requires { ⌜ (from ≤ length (now text)) × (length (now text) ≤ textLimit) × LineStart (now text) from × (to ≡ nextLine isHeading (now text) from) × (place ≡ placeAt (now text) from) × (parent ≤ far) × (sink .count ≤ 2 * from + 1) × NumberOf (now text) from number × (number ≤ far) ⌝ }
+    requires { ⌜ SectionAt (now text) from to place × (parent ≤ far) × (sink .count ≤ 2 * from + 1) × NumberOf (now text) from number × (number ≤ far) ⌝ }
     ensures { λ r. ⌜ Takes (now (table .entry)) sink (sectionEntries (now (text .entry)) (sectionOf from) parent (sink .count)) (now (table .exit)) (r .sink) ⌝ }
     ensures { λ r. ⌜ (r .sink .count + 2 * from ≤ sink .count + 2 * to + 1) × NumberOf (now (text .entry)) to (r .line) ⌝ }
 {

@@ -68,11 +68,13 @@ read-section-requires c κs =
     let at-next = c .before .before .before .before .before .before in
     let l = line at-next in
     let order = headingLine-order l in (
-      omega arith,
-      l .here .limit,
-      heading-start _ _ (l .here) (l .some) _ (l .end),
-      l .next,
-      sym (heading-place _ _ (l .here) (l .some) _ (l .end)),
+      record {
+        text = omega arith;
+        limit = l .here .limit;
+        start = heading-start _ _ (l .here) (l .some) _ (l .end);
+        end = l .next;
+        place = sym (heading-place _ _ (l .here) (l .some) _ (l .end));
+      },
       omega arith,
       omega arith,
       inner-line at-next,

@@ -25,8 +25,19 @@ module _ (c : tie.After-next-heading) where
 
 read-section-requires : tie.Need-read-section-requires
 read-section-requires c κs =
-    let at-next = c .before in
-    (omega arith, omega arith, lineStart-zero (s at-next), first at-next, sym (placeAt-zero (s at-next)), omega arith, omega arith, λ i. sym (lineNumber-zero (s at-next)), omega arith)
+    let at-next = c .before in (
+      record {
+        text = omega arith;
+        limit = omega arith;
+        start = lineStart-zero (s at-next);
+        end = first at-next;
+        place = sym (placeAt-zero (s at-next));
+      },
+      omega arith,
+      omega arith,
+      λ i. sym (lineNumber-zero (s at-next)),
+      omega arith,
+    )
 
 returns : tie.Need-returns
 returns c =

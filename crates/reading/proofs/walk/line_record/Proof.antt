@@ -42,7 +42,8 @@ run-end-requires c κs =
 returns-3 : tie.Need-returns-3
 returns-3 c =
     let at-rows = c .before .before in
-    rw (at-rows .if1 .left, at-rows .before .before .pre .1) (property-record _ _ _ _ (at-rows .before .before .pre .0) _ _ (c .before .word-end .ensures) (c .run-end .ensures))
+    let (line, number) = at-rows .before .before .pre in
+    rw (at-rows .if1 .left, number) (property-record _ _ _ _ line _ _ (c .before .word-end .ensures) (c .run-end .ensures))
 
 pub line-record-spec : {M : Type 1} → statement M
 line-record-spec =

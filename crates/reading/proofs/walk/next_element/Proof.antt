@@ -42,9 +42,10 @@ number-le c =
 
 -- so many lines are its own and blank
 lines : (c : tie.After-first-line) → let a = c .before .before .before .before .args in
-    (c .before .element-at .result .own + c .first-line .result .lines ≤ length (a .text .now))
-    × (c .first-line .result .at < length (a .text .now)
-    → lineNumber (a .text .now) (c .first-line .result .at) ≡ lineNumber (a .text .now) (a .at) + (c .before .element-at .result .own + c .first-line .result .lines))
+    let n = c .before .element-at .result .own + c .first-line .result .lines in
+    let s = a .text .now in
+    let b = c .first-line .result .at in
+    (n ≤ length s) × (b < length s → lineNumber s b ≡ lineNumber s (a .at) + n)
 lines c =
     let pre = c .before .before .before .before .pre in
     element-lines _ _ _ (pre .0 .range) (pre .1) _ (here (c .before)) _ (c .first-line .ensures .0) _ (c .first-line .ensures .1)

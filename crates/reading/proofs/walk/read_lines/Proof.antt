@@ -44,22 +44,27 @@ returns c =
     )
 
 module _ (c : tie.After-line-at Inv-loop μ-loop) where
-  here : LineOf (c .before .before .before .before .before .before .before .args .text .now) (c .line-at .result) (c .before .before .before .before .before .before .before .args .to)
+  abbrev start : tie.Start Inv-loop μ-loop
+  start = c .before .before .before .before .before .before .before
+
+  here : LineOf (start .args .text .now) (c .line-at .result) (start .args .to)
   here = lineOf _ _ _ _ (c .before .loop-test .taken) (omega arith) (c .line-at .ensures)
 
-  next : (c .before .before .loop .at < c .line-at .result .end) × (c .line-at .result .end ≤ c .before .before .before .before .before .before .before .args .to)
+  next : (c .before .before .loop .at < c .line-at .result .end) × (c .line-at .result .end ≤ start .args .to)
   next = lineSpan-next _ _ _ _ (c .line-at .ensures) (c .before .loop-test .taken) (omega arith)
 
   -- the next line's number
-  number : c .line-at .result .end < c .before .before .before .before .before .before .before .args .to
-      → c .before .before .loop .n + 1 ≡ lineNumber (c .before .before .before .before .before .before .before .args .text .now) (c .line-at .result .end)
+  number : c .line-at .result .end < start .args .to
+      → c .before .before .loop .n + 1 ≡ lineNumber (start .args .text .now) (c .line-at .result .end)
   number i =
       let some = c .before .loop-test .taken in
       ap (λ (k : ℕ). k + 1) (c .before .before .loop .inv .4 some)
       ∙ sym (lineNumber-next _ _ _ _ some (omega arith) (lineSpan-end _ _ _ _ (c .line-at .ensures)) i)
 
   number-small : c .before .before .loop .n ≤ c .before .before .loop .at
-  number-small = omega (arith, c .before .before .loop .inv .4 (c .before .loop-test .taken), lineNumber-le (c .before .before .before .before .before .before .before .args .text .now) (c .before .before .loop .at))
+  number-small =
+      let loop = c .before .before .loop in
+      omega (arith, loop .inv .4 (c .before .loop-test .taken), lineNumber-le (start .args .text .now) (loop .at))
 
 line-record-requires : tie.Need-line-record-requires Inv-loop μ-loop
 line-record-requires c κs =

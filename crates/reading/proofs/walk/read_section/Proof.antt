@@ -17,7 +17,7 @@ use Rattle.reading.proofs.walk.read_section.Statement.{statement}
 use Rattle.reading.proofs.walk.read_section.Tie as tie
 
 first-line-requires : tie.Need-first-line-requires
-first-line-requires c κs = let pre = c .before .before .pre in section-end _ _ _ (pre .1) (pre .2) (pre .3)
+first-line-requires c κs = let at = c .before .before .pre .0 in section-end _ _ _ (at .limit) (at .start) (at .end)
 
 -- what holds of the first line, `at`
 module _ (c : tie.After-first-line) where
@@ -26,39 +26,40 @@ module _ (c : tie.After-first-line) where
 
   order : (start .args .from ≤ c .first-line .result .at) × (c .first-line .result .at ≤ start .args .to) × (start .args .to ≤ length (start .args .text .now))
   order =
-      let pre = start .pre in
-      let end = section-end _ _ _ (pre .1) (pre .2) (pre .3) in
-      let first = section-first _ _ _ (pre .1) (pre .2) (pre .3) _ (c .first-line .ensures .0) in
+      let at = start .pre .0 in
+      let end = section-end _ _ _ (at .limit) (at .start) (at .end) in
+      let first = section-first _ _ _ (at .limit) (at .start) (at .end) _ (c .first-line .ensures .0) in
       omega arith
 
   range : Range (start .args .text .now) (c .first-line .result .at) (start .args .to)
-  range = let pre = start .pre in section-range _ _ _ (pre .1) (pre .2) (pre .3) _ (c .first-line .ensures .0)
+  range = let at = start .pre .0 in section-range _ _ _ (at .limit) (at .start) (at .end) _ (c .first-line .ensures .0)
 
   -- the line number there, of what is in the text
   number : c .first-line .result .at < length (start .args .text .now)
       → start .args .number + c .first-line .result .lines ≡ lineNumber (start .args .text .now) (c .first-line .result .at)
   number i =
-      let pre = start .pre in
-      section-number _ _ _ (pre .1) (pre .2) (pre .3) _ (c .first-line .ensures .0) _ (c .first-line .ensures .1) _ (pre .7) i
+      let at = start .pre .0 in
+      section-number _ _ _ (at .limit) (at .start) (at .end) _ (c .first-line .ensures .0) _ (c .first-line .ensures .1) _ (start .pre .3) i
 
   number-small : start .args .number + c .first-line .result .lines ≤ far + length (start .args .text .now)
   number-small =
-      let pre = start .pre in
-      omega (arith, pre .8, section-blanks _ _ _ (pre .1) (pre .2) (pre .3) _ (c .first-line .ensures .1))
+      let at = start .pre .0 in
+      omega (arith, start .pre .4, section-blanks _ _ _ (at .limit) (at .start) (at .end) _ (c .first-line .ensures .1))
 
 placed : (c : tie.After-first-place) → let at-first = c .before .before .before in
     c .first-place .result ≡ placeAt (start at-first .args .text .now) (at-first .first-line .result .at)
 placed c =
     let at-first = c .before .before .before in
-    let pre = start at-first .pre in
-    c .first-place .ensures ∙ section-place _ _ _ (pre .1) (pre .2) (pre .3) _ (at-first .first-line .ensures .0) _ (pre .4)
+    let at = start at-first .pre .0 in
+    c .first-place .ensures ∙ section-place _ _ _ (at .limit) (at .start) (at .end) _ (at-first .first-line .ensures .0) _ (at .place)
 
 returns : tie.Need-returns
 returns c =
     let at-first = c .before .before in
-    let bounds = order at-first in (
-      section-none _ _ _ _ _ _ (start at-first .pre .3) (at-first .first-line .ensures .0) (c .if1 .taken),
-      (omega arith, λ i. let same : at-first .first-line .result .at ≡ start at-first .args .to = omega arith in number at-first (omega arith) ∙ ap (lineNumber _) same),
+    let bounds = order at-first in
+    let same : at-first .first-line .result .at ≡ start at-first .args .to = omega arith in (
+      section-none _ _ _ _ _ _ (start at-first .pre .0 .end) (at-first .first-line .ensures .0) (c .if1 .taken),
+      (omega arith, λ i. number at-first (omega arith) ∙ ap (lineNumber _) same),
     )
 
 emit-requires : tie.Need-emit-requires
@@ -92,7 +93,8 @@ returns-2 c =
     let bounds = order at-first in
     let line = number at-first (omega arith) in (
       at-read .read-elements .ensures .0
-          ∙ section-turn _ _ _ _ _ _ (start at-first .pre .3) (at-first .first-line .ensures .0) _ (at-test .if1 .left) (rw line at (at-emit .emit .ensures .0)),
+          ∙ section-turn _ _ _ _ _ _ (start at-first .pre .0 .end) (at-first .first-line .ensures .0) _ (at-test .if1 .left)
+          (rw line at (at-emit .emit .ensures .0)),
       (omega (arith, at-read .read-elements .ensures .1 .0), at-read .read-elements .ensures .1 .1 (at-test .if1 .left)),
     )
 
