@@ -17,6 +17,7 @@ use text::bytes::run_end;
 use text::limit;
 use text::line::line_at;
 use text::line::line_end;
+use text::line::starts_line;
 use text::marks::word_end;
 use text::word::is_word;
 
@@ -60,10 +61,8 @@ pub fn find_heading(text: &[u8], at: usize) -> Heading
     if end <= at {
         return Heading::Missing;
     }
-    if 0 < at {
-        if text[at - 1] != 10 {
-            return Heading::Missing;
-        }
+    if !starts_line(text, at) {
+        return Heading::Missing;
     }
     if heading_stars(text, at, end) == 0 {
         return Heading::Missing;
@@ -84,10 +83,15 @@ fn find_drawer_at(text: &[u8], at: usize, to: usize) -> Drawer
         return Drawer::Missing;
     }
     let inner = opener.end;
-    let Closer::At(close, _, _) = find_properties_end(text, inner, to) else {
+    let Closer::At {
+        start,
+        end: _,
+        before: _,
+    } = find_properties_end(text, inner, to)
+    else {
         return Drawer::Missing;
     };
-    Drawer::Lines(inner, close)
+    Drawer::Lines(inner, start)
 }
 
 // The property drawer of the heading whose line ends at a byte: right after that line or its planning line.  [01 rule 2]

@@ -1,6 +1,6 @@
 -- What is known of the closers that lie ahead, so that a search that must be in vain is not made. No promise of an entry point rests on this.
 use mathlib.Core.Path.{_≡_}
-use mathlib.Core.Bool.{Bool, true, false}
+use mathlib.Core.Bool.{Bool, false, not, _||_}
 use mathlib.Core.List.{List, [], _∷_, _++_}
 use mathlib.Core.Option.{none}
 use Prim.Native.Nat.{ℕ, _+_, _*_, _/_, _%_, _^_}
@@ -32,12 +32,16 @@ hasName m x = eqb (m / 2 ^ nameNumber x % 2) 1
 abbrev pub Names : List ℕ → ℕ → ℕ → ℕ → Type 0
 Names s p e m = (x : List ℕ) → hasName m x ≡ false → NoLine (word "#+end_" ++ x) s p e
 
+-- the closer of a block named x may stand ahead
+unfoldable pub mayClose : Known → List ℕ → Bool
+mayClose k x = not (k .asked) || hasName (k .names) x
+
 -- what is known is true of the lines from byte p up to byte e
 pub record Knows (s : List ℕ) (p e : ℕ) (k : Known) : Type 0 where
   pub ends : k .ends ≡ false → NoLine (word ":end:") s p e
-  pub names : k .asked ≡ true → Names s p e (k .names)
+  pub names : (x : List ℕ) → mayClose k x ≡ false → NoLine (word "#+end_" ++ x) s p e
 
 -- opens the definitions of this file and of those it stands on, for computed examples
 unfoldable pub OpenKnown : Type 1
-unfolding OpenElements numberFrom nameNumber hasName
+unfolding OpenElements numberFrom nameNumber hasName mayClose
 OpenKnown = Type 0

@@ -1,13 +1,15 @@
 ghost use mathlib.Core.Path.{_≡_};
 ghost use Prim.Native.Nat.{_≤_};
 ghost use lib.ListN.{length};
-ghost use Rattle.text.specs.Parts.{part};
+ghost use Rattle.text.specs.Parts.{part, lineIn};
 ghost use Rattle.rules.specs.Names.{numberIn};
+ghost use Rattle.rules.specs.LineTests.{blockName};
 ghost use Rattle.rules.specs.Elements.{block, verbatimNames, greaterDetail};
-ghost use Rattle.rules.specs.Findings.{InScope, ruleOn};
+ghost use Rattle.rules.specs.Findings.{LineOf, nameEnd, InScope, ruleOn};
 use crate::closer::Closer;
 use crate::closer::find_closer;
 use crate::kind;
+use crate::known::may_close;
 use crate::rule::Element;
 use crate::rule::Rule;
 use crate::scope::Scope;
@@ -53,48 +55,58 @@ fn greater_detail(text: &[u8], from: usize, to: usize) -> usize
     3
 }
 
+// Where NAME ends in a line `#+begin_NAME`, whose name starts 8 bytes after its body does; 0 where the line is none.
+pub fn name_end(text: &[u8], line: LineSpan, to: usize) -> usize
+    requires { ⌜ LineOf (now text) line to ⌝ }
+    ensures { λ r. ⌜ r ≡ nameEnd (line .from) (blockName (lineIn (now (text .entry)) (line .start) to)) ⌝ }
+{
+    if !begins_with(text, line.from, line.to, b"#+begin_") {
+        return 0;
+    }
+    let name = line.from + 8;
+    let end = word_end(text, name, line.to);
+    if end == name { 0 } else { end }
+}
+
 // A block, where its closer stands before the end.  [01 rule 3]
 pub fn try_block(text: &[u8], line: LineSpan, scope: Scope) -> Rule
     requires { ⌜ InScope (now text) line scope ⌝ }
     ensures { λ r. ⌜ r ≡ ruleOn block (now (text .entry)) line scope ⌝ }
 {
-    if !begins_with(text, line.from, line.to, b"#+begin_") {
+    let to = name_end(text, line, scope.end);
+    if to == 0 {
         return Rule::Fails;
     }
     let name = line.from + 8;
-    let name_end = word_end(text, name, line.to);
-    if name_end == name {
+    let known = scope.known;
+    if !may_close(text, name, to, known) {
         return Rule::Fails;
     }
     let inner = line.end;
-    let Closer::At(close, end, n) = find_closer(
-        text,
-        inner,
-        scope.end,
-        b"#+end_",
-        &text[name..name_end],
-    ) else {
+    let search = find_closer(text, inner, scope.end, b"#+end_", &text[name..to]);
+    let closer = search.closer;
+    let Closer::At { start, end, before } = closer else {
         return Rule::Fails;
     };
-    let verbatim = verbatim_detail(text, name, name_end);
+    let verbatim = verbatim_detail(text, name, to);
     if 0 < verbatim {
         return Rule::Holds(Element {
             kind: kind::VERBATIM_BLOCK,
             end: end,
-            own: n + 2,
+            own: before + 2,
             from: inner,
-            to: close,
+            to: start,
             detail: verbatim,
-            lines: n,
+            lines: before,
         });
     }
     Rule::Holds(Element {
         kind: kind::GREATER_BLOCK,
         end: end,
-        own: n + 2,
+        own: before + 2,
         from: inner,
-        to: close,
-        detail: greater_detail(text, name, name_end),
-        lines: n,
+        to: start,
+        detail: greater_detail(text, name, to),
+        lines: before,
     })
 }

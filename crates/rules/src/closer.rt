@@ -1,23 +1,31 @@
 ghost use mathlib.Core.Path.{_≡_};
-ghost use mathlib.Core.Bool.{false};
 ghost use mathlib.Core.List.{_++_};
 ghost use Prim.Native.Nat.{_≤_, _<_};
 ghost use lib.ListN.{length};
-ghost use Rattle.text.specs.Parts.{linesIn};
-ghost use Rattle.rules.specs.Elements.{linesBefore};
-ghost use Rattle.rules.specs.Findings.{InScope, closerAt, endLine, NoEnd, KeyBytes, keyByte};
-use crate::scope::Scope;
+ghost use Rattle.text.specs.Runs.{word};
+ghost use Rattle.text.specs.Parts.{lineIn};
+ghost use Rattle.rules.specs.Findings.{KeyBytes, keyByte};
+ghost use Rattle.rules.specs.Closers.{startsWith, searched};
 use text::bytes::Class;
 use text::bytes::lower;
 use text::bytes::run_end;
 use text::bytes::trim_end;
-use text::line::LineSpan;
 use text::line::line_end;
 
-// The closing line's start and end, and how many lines stand before it, where there is one.
+// The closing line, where there is one: its start, its end, and how many lines stand before it.
 pub enum Closer {
-    At(usize, usize, usize),
+    At {
+        start: usize,
+        end: usize,
+        before: usize,
+    },
     Nothing,
+}
+
+// What a search for a closer finds, and how many lines it compared further.  [02 order 3]
+pub struct Search {
+    pub closer: Closer,
+    pub compared: usize,
 }
 
 // Byte j of a closer that is made of two parts, its letter made small.
@@ -32,25 +40,56 @@ fn key_byte(first: &[u8], second: &[u8], j: usize) -> u8
     }
 }
 
-// The first line up to an end whose body is `first` and then `second`, case ignored.  [01 rules 3 and 4]
-pub fn find_closer(text: &[u8], from: usize, to: usize, first: &[u8], second: &[u8]) -> Closer
+// Whether the first non-blank byte of the line at a byte is a mark.
+fn starts_with(text: &[u8], at: usize, to: usize, mark: u8) -> bool
+    requires { ⌜ (at ≤ to) × (to ≤ length (now text)) ⌝ }
+    ensures { λ r. ⌜ r ≡ startsWith mark (lineIn (now (text .entry)) at to) ⌝ }
+{
+    let first = run_end(text, at, to, Class::Blank);
+    if to <= first {
+        return false;
+    }
+    lower(text[first]) == mark
+}
+
+// The first line up to an end whose body is `first` and then `second`, case ignored. Only a line whose first non-blank byte is the closer's is
+// compared further, and counted.  [01 rules 3 and 4, 02 order 3]
+pub fn find_closer(text: &[u8], from: usize, to: usize, first: &[u8], second: &[u8]) -> Search
     requires { ⌜ (from ≤ to) × (to ≤ length (now text)) × KeyBytes (now first ++ now second) ⌝ }
-    ensures { λ r. ⌜ r ≡ closerAt from (linesIn (now (text .entry)) from to) (linesBefore (now (first .entry) ++ now (second .entry)) (linesIn (now (text .entry)) from to)) ⌝ }
+    ensures { λ r. ⌜ r ≡ searched (now (first .entry) ++ now (second .entry)) (now (text .entry)) from to ⌝ }
 {
     let size = first.len() + second.len();
+    let mark = key_byte(first, second, 0);
     let mut at = from;
     let mut n = 0;
+    let mut compared = 0;
     'lines: loop {
         if to <= at {
-            break 'lines Closer::Nothing;
+            break 'lines Search {
+                closer: Closer::Nothing,
+                compared: compared,
+            };
         }
+        if !starts_with(text, at, to, mark) {
+            at = line_end(text, at, to);
+            n += 1;
+            continue;
+        }
+        compared += 1;
         let body = run_end(text, at, to, Class::Indent);
         let mut j = 0;
         loop {
             if size <= j {
                 let end = line_end(text, body + j, to);
                 if trim_end(text, body + j, end) == body + j {
-                    break 'lines Closer::At(at, end, n);
+                    break 'lines Search {
+                        closer: Closer::At {
+                            start: at,
+                            end: end,
+                            before: n,
+                        },
+                        compared: compared,
+                    };
                 }
                 break;
             }
@@ -68,30 +107,9 @@ pub fn find_closer(text: &[u8], from: usize, to: usize, first: &[u8], second: &[
 }
 
 // The first `:END:` line from a line's start on, up to an end.
-pub fn find_end(text: &[u8], from: usize, to: usize) -> Closer
+pub fn find_end(text: &[u8], from: usize, to: usize) -> Search
     requires { ⌜ (from ≤ to) × (to ≤ length (now text)) ⌝ }
-    ensures { λ r. ⌜ r ≡ endLine (now (text .entry)) from to ⌝ }
+    ensures { λ r. ⌜ r ≡ searched (word ":end:") (now (text .entry)) from to ⌝ }
 {
     find_closer(text, from, to, b":end:", b"")
-}
-
-// Whether an `:END:` line may still follow a line that starts no element: asked anew only at a line that could have opened a drawer.
-pub fn may_end(text: &[u8], line: LineSpan, scope: Scope) -> bool
-    requires { ⌜ InScope (now text) line scope ⌝ }
-    ensures { λ r. ⌜ (r ≡ false → NoEnd (now (text .entry)) (line .end) (scope .end)) ⌝ }
-{
-    if !scope.ends {
-        return false;
-    }
-    let from = line.from;
-    if line.to <= from {
-        return true;
-    }
-    if text[from] != b':' {
-        return true;
-    }
-    let Closer::At(_, _, _) = find_end(text, line.end, scope.end) else {
-        return false;
-    };
-    true
 }

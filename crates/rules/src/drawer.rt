@@ -41,22 +41,22 @@ pub fn try_property_drawer(text: &[u8], line: LineSpan, scope: Scope) -> Rule
         return Rule::Fails;
     }
     let inner = line.end;
-    let Closer::At(close, end, n) = find_properties_end(text, inner, scope.end) else {
+    let Closer::At { start, end, before } = find_properties_end(text, inner, scope.end) else {
         return Rule::Fails;
     };
     Rule::Holds(Element {
         kind: kind::PROPERTY_DRAWER,
         end: end,
-        own: n + 2,
+        own: before + 2,
         from: inner,
-        to: close,
+        to: start,
         detail: 0,
-        lines: n,
+        lines: before,
     })
 }
 
 // Whether a line's body is `:NAME:`, and NAME is not `END`.
-fn is_drawer_line(text: &[u8], line: LineSpan, to: usize) -> bool
+pub fn is_drawer_line(text: &[u8], line: LineSpan, to: usize) -> bool
     requires { ⌜ LineOf (now text) line to ⌝ }
     ensures { λ r. ⌜ r ≡ isDrawerLine (lineIn (now (text .entry)) (line .start) to) ⌝ }
 {
@@ -76,23 +76,26 @@ pub fn try_drawer(text: &[u8], line: LineSpan, scope: Scope) -> Rule
     requires { ⌜ InScope (now text) line scope ⌝ }
     ensures { λ r. ⌜ r ≡ ruleOn drawer (now (text .entry)) line scope ⌝ }
 {
-    if !scope.ends {
+    let known = scope.known;
+    if !known.ends {
         return Rule::Fails;
     }
     if !is_drawer_line(text, line, scope.end) {
         return Rule::Fails;
     }
     let inner = line.end;
-    let Closer::At(close, end, n) = find_end(text, inner, scope.end) else {
+    let search = find_end(text, inner, scope.end);
+    let closer = search.closer;
+    let Closer::At { start, end, before } = closer else {
         return Rule::Fails;
     };
     Rule::Holds(Element {
         kind: kind::DRAWER,
         end: end,
-        own: n + 2,
+        own: before + 2,
         from: inner,
-        to: close,
+        to: start,
         detail: 0,
-        lines: n,
+        lines: before,
     })
 }

@@ -1,18 +1,20 @@
 ghost use mathlib.Core.Path.{_≡_};
-ghost use mathlib.Core.Bool.{true, false};
+ghost use mathlib.Core.Bool.{true};
 ghost use mathlib.Core.List.{[]};
 ghost use Prim.Native.Nat.{_≤_};
 ghost use lib.ListN.{length};
 ghost use Rattle.text.specs.Bytes.{lower};
 ghost use Rattle.rules.specs.Elements.{firstOf, rules3to9, rules1to9};
-ghost use Rattle.rules.specs.Findings.{InScope, NoEnd, wanting, paragraphRun, ruleOn, elementOn};
+ghost use Rattle.rules.specs.Known.{Knows};
+ghost use Rattle.rules.specs.Findings.{InScope, wanting, paragraphRun, ruleOn, elementOn};
+use crate::ahead::known_after;
 use crate::block::try_block;
-use crate::closer::may_end;
 use crate::drawer::try_drawer;
 use crate::drawer::try_property_drawer;
 use crate::horizontal::try_horizontal_rule;
 use crate::keyword::try_keyword;
 use crate::kind;
+use crate::known::Known;
 use crate::lines::LineClass;
 use crate::lines::LineRun;
 use crate::lines::try_run;
@@ -87,24 +89,29 @@ fn starts_text(b: u8) -> bool
     is_name(b) && b != b'-'
 }
 
+// The further lines of a paragraph, and what is known of those after them.
+pub struct Further {
+    pub run: LineRun,
+    pub known: Known,
+}
+
 // The further lines of a paragraph: up to a blank line, the end, or a line where a rule holds.  [01 rule 10]
 // The first byte after the indentation spares most lines the search for a rule.
-fn paragraph_lines(text: &[u8], from: usize, scope: Scope) -> LineRun
-    requires { ⌜ (from ≤ scope .end) × (scope .end ≤ length (now text)) × (scope .ends ≡ false → NoEnd (now text) from (scope .end)) ⌝ }
-    ensures { λ r. ⌜ r ≡ paragraphRun (now (text .entry)) from (scope .end) 0 ⌝ }
+fn paragraph_lines(text: &[u8], from: usize, to: usize, before: Known) -> Further
+    requires { ⌜ (from ≤ to) × (to ≤ length (now text)) × Knows (now text) from to before ⌝ }
+    ensures { λ r. ⌜ (r .run ≡ paragraphRun (now (text .entry)) from to 0) × Knows (now (text .entry)) (r .run .end) to (r .known) ⌝ }
 {
-    let to = scope.end;
     let mut at = from;
     let mut n = 0;
-    let mut still = scope.ends;
+    let mut known = before;
     while at < to {
         let body = run_end(text, at, to, Class::Indent);
         if to <= body {
-            return LineRun { end: at, lines: n };
+            break;
         }
         let first = text[body];
         if first == 10 {
-            return LineRun { end: at, lines: n };
+            break;
         }
         if starts_text(first) {
             at = line_end(text, body, to);
@@ -112,40 +119,59 @@ fn paragraph_lines(text: &[u8], from: usize, scope: Scope) -> LineRun
         } else {
             let line = line_at(text, at, to);
             if line.to <= line.from {
-                return LineRun { end: at, lines: n };
+                break;
             }
             let here = Scope {
                 end: to,
                 place: Place::Elsewhere,
-                ends: still,
+                known: known,
             };
             if let Rule::Holds(_) = find_rule(text, line, here) {
-                return LineRun { end: at, lines: n };
+                break;
             }
-            still = may_end(text, line, here);
+            known = known_after(text, line, here);
             at = line.end;
             n += 1;
         }
     }
-    LineRun { end: at, lines: n }
+    Further {
+        run: LineRun { end: at, lines: n },
+        known: known,
+    }
+}
+
+// An element, and what is known of the lines after its own.
+pub struct Parsed {
+    pub element: Element,
+    pub known: Known,
 }
 
 // The element at a line.
-pub fn element_at(text: &[u8], line: LineSpan, scope: Scope) -> Element
+pub fn element_at(text: &[u8], line: LineSpan, scope: Scope) -> Parsed
     requires { ⌜ InScope (now text) line scope ⌝ }
-    ensures { λ r. ⌜ r ≡ elementOn (now (text .entry)) line scope ⌝ }
+    ensures { λ r. ⌜ (r .element ≡ elementOn (now (text .entry)) line scope) × Knows (now (text .entry)) (r .element .end) (scope .end) (r .known) ⌝ }
 {
     if let Rule::Holds(e) = find_rule(text, line, scope) {
-        return e;
+        let known = scope.known;
+        return Parsed {
+            element: e,
+            known: known,
+        };
     }
-    let further = paragraph_lines(text, line.end, scope);
-    Element {
-        kind: kind::PARAGRAPH,
-        end: further.end,
-        own: further.lines + 1,
-        from: line.start,
-        to: further.end,
-        detail: 0,
-        lines: 0,
+    let known = known_after(text, line, scope);
+    let further = paragraph_lines(text, line.end, scope.end, known);
+    let run = further.run;
+    let after = further.known;
+    Parsed {
+        element: Element {
+            kind: kind::PARAGRAPH,
+            end: run.end,
+            own: run.lines + 1,
+            from: line.start,
+            to: run.end,
+            detail: 0,
+            lines: 0,
+        },
+        known: after,
     }
 }

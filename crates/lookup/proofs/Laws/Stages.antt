@@ -13,7 +13,7 @@ use borrow.Table.Steps.{cases}
 use Rattle.text.specs.Bytes.{isNewline}
 use Rattle.text.specs.Runs.{isEmpty, same}
 use Rattle.text.specs.Lines.{Line, joinFirst, lines, size, blankLine, body, bodyEnd, firstRun, valueStart, headLine, tailLines, leading, blanks}
-use Rattle.text.specs.Parts.{linesIn, lineIn, firstLine, nextLine, LineStart}
+use Rattle.text.specs.Parts.{linesIn, lineIn, firstLine, nextLine, lineStarts, LineStart}
 use Rattle.text.proofs.Basics.{and-first}
 use Rattle.text.proofs.Laws.Lines.{some-lines, size-headLine, size-take-mono, bodyEnd-le}
 use Rattle.text.proofs.Laws.LinesIn.{linesIn-nil, linesIn-drop, lineIn-to, size-linesIn, within-linesIn, nextLine-from, nextLine-to}
@@ -30,7 +30,7 @@ use Rattle.rules.proofs.Laws.PropertyDrawers.{lineAfter, DrawerPlace, under-hea
 use Rattle.lookup.specs.declared.stages.Heading.the-variants.{Before, Missing as NoHeading}
 use Rattle.lookup.specs.declared.stages.Drawer.the-variants.{Lines, Missing as NoDrawer}
 use Rattle.lookup.specs.declared.stages.Value.the-variants.{Part, Missing as NoValue}
-use Rattle.lookup.specs.Stages.{isBadKey, lineStarts, headingAt, drawerAt, drawerAfter, valueIn}
+use Rattle.lookup.specs.Stages.{isBadKey, headingAt, drawerAt, drawerAfter, valueIn}
 
 -- ---- where a line starts
 

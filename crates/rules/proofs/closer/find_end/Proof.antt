@@ -3,7 +3,6 @@
 use borrow.Author.Needs.{needs}
 use Rattle.text.specs.Bytes.{isNonBlank}
 use Rattle.text.specs.Runs.{word, all}
-use Rattle.rules.specs.Findings.{endLine}
 use Rattle.rules.proofs.closer.find_end.Statement.{statement}
 use Rattle.rules.proofs.closer.find_end.Tie as tie
 
@@ -12,7 +11,7 @@ unfolding all isNonBlank
 find-closer-requires c κs = search needs
 
 returns : tie.Need-returns
-unfolding endLine word
+unfolding word
 returns c = c .find-closer .ensures
 
 pub find-end-spec : {M : Type 1} → statement M

@@ -60,7 +60,7 @@ add c =
     let ls = linesIn s (l .end) e in
     omega (
       arith,
-      closer-count (l .end) ls _ (propertiesBefore-below ls) _ _ _ (sym (c .before .close .given .1) ∙ at-closer .find-properties-end .ensures),
+      closer-count (l .end) ls _ (propertiesBefore-below ls) _ _ _ (sym (c .before .start .given .1) ∙ at-closer .find-properties-end .ensures),
       linesIn-length s (l .end) e (o .4) (o .5),
     )
 
@@ -69,7 +69,7 @@ returns-4 c =
     let at-closer = c .before .before .before in
     let at-line = at-closer .before in
     propertyDrawer-closer _ _ _ (at-line .before .before .before .before .before .before .pre .line) _ (line (at-line .before) ∙ not-false _ (at-line .if2 .left)) _
-    (sym (c .before .close .given .1) ∙ at-closer .find-properties-end .ensures)
+    (sym (c .before .start .given .1) ∙ at-closer .find-properties-end .ensures)
 
 pub try-property-drawer-spec : {M : Type 1} → statement M
 try-property-drawer-spec =

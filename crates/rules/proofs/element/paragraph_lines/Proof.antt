@@ -1,47 +1,52 @@
 -- `rules::element::paragraph_lines` meets its contract.
--- The invariant: the further lines from `at` on, counted on from n, are those asked for, and `still` is false only where no `:END:` line stands from `at` on.
+-- The invariant: the further lines from `at` on, counted on from n, are those asked for, and what is known is true of the lines from `at` on.
 -- The measure is the bytes from `at` on.
 -- Assumes nothing.
 use mathlib.Core.Path.{_≡_, refl, sym, _∙_}
-use mathlib.Core.Bool.{false}
 use Prim.Native.Nat.{_+_, _-_, _≤_, _<_}
 use native.Mathlib.Omega.{arith}
 use lib.ListN.{length}
 use borrow.Author.Needs.{needs}
 use Rattle.text.specs.Parts.{lineIn}
 use Rattle.text.proofs.Laws.LinesIn.{lineIn-some, lineIn-to}
-use Rattle.rules.specs.Findings.{LineOf, NoEnd, paragraphRun}
+use Rattle.rules.specs.Known.{Knows}
+use Rattle.rules.specs.Findings.{LineOf, paragraphRun}
 use Rattle.rules.proofs.Laws.LineOf.{indent-run, after-end, lineOf, lineSpan-start, lineSpan-next}
-use Rattle.rules.proofs.Laws.NoEnds.{noEnd-line}
+use Rattle.rules.proofs.Laws.NoLines.{knows-line}
 use Rattle.rules.proofs.Laws.Paragraphs.{paragraph-none, paragraph-short, paragraph-newline, paragraph-plain}
 use Rattle.rules.proofs.Laws.Paragraphs.{paragraph-blank, paragraph-stop, paragraph-pass}
 use Rattle.rules.proofs.element.paragraph_lines.Statement.{statement}
 use Rattle.rules.proofs.element.paragraph_lines.Tie as tie
 
 abbrev Inv-loop : tie.InvT-loop
-Inv-loop text from to at₀ n₀ still₀ at n still =
-    (at ≤ to) × (to ≤ length text) × (still ≡ false → NoEnd text at to) × (paragraphRun text at to n ≡ paragraphRun text from to 0) × (n ≤ at)
+Inv-loop text from to at₀ n₀ known₀ at n known =
+    (at ≤ to) × (to ≤ length text) × Knows text at to known × (paragraphRun text at to n ≡ paragraphRun text from to 0) × (n ≤ at)
 
 abbrev μ-loop : tie.MeasureT-loop
-μ-loop text from to at₀ n₀ still₀ at n still = to - at
+μ-loop text from to at₀ n₀ known₀ at n known = to - at
 
 loop-holds : tie.Need-loop-holds Inv-loop μ-loop
 loop-holds c = let start = c .before in (start .pre .0, start .pre .1, start .pre .2, refl, omega arith)
 
+-- ---- no line that starts with a byte
+
 returns : tie.Need-returns Inv-loop μ-loop
-returns c =
-    let at-body = c .before in
-    let at-test = at-body .before in
-    let inv = at-test .before .loop .inv in
-    sym (paragraph-short _ _ _ (at-test .loop-test .taken) (inv .1) _ (at-body .run-end .ensures) _ (c .if1 .taken)) ∙ inv .3
+returns c = let inv = c .before .loop .inv in (sym (paragraph-none _ _ _ _ (c .loop-test .left)) ∙ inv .3, inv .2)
 
 returns-2 : tie.Need-returns-2 Inv-loop μ-loop
 returns-2 c =
+    let at-body = c .before in
+    let at-test = at-body .before in
+    let inv = at-test .before .loop .inv in
+    (sym (paragraph-short _ _ _ (at-test .loop-test .taken) (inv .1) _ (at-body .run-end .ensures) _ (c .if1 .taken)) ∙ inv .3, inv .2)
+
+returns-3 : tie.Need-returns-3 Inv-loop μ-loop
+returns-3 c =
     let at-some = c .before .before in
     let at-body = at-some .before in
     let at-test = at-body .before in
     let inv = at-test .before .loop .inv in
-    sym (paragraph-newline _ _ _ (at-test .loop-test .taken) (inv .1) _ (at-body .run-end .ensures) (at-some .if1 .left) _ (c .if2 .taken)) ∙ inv .3
+    (sym (paragraph-newline _ _ _ (at-test .loop-test .taken) (inv .1) _ (at-body .run-end .ensures) (at-some .if1 .left) _ (c .if2 .taken)) ∙ inv .3, inv .2)
 
 -- ---- a line whose first byte may start a rule
 
@@ -51,42 +56,46 @@ in-loop c = c .before .before .before .before .before .before .before
 
 -- the line at `at`
 line : (c : tie.After-line-at Inv-loop μ-loop) → let args = in-loop c .before .before .before .args in
-    LineOf (args .text .now) (c .line-at .result) (args .scope .end)
+    LineOf (args .text .now) (c .line-at .result) (args .to)
 line c = let at-test = in-loop c in lineOf _ _ _ _ (at-test .loop-test .taken) (at-test .before .loop .inv .1) (c .line-at .ensures)
 
 -- it starts there
 here : (c : tie.After-line-at Inv-loop μ-loop) → c .line-at .result .start ≡ in-loop c .before .loop .at
 here c = lineSpan-start _ _ _ _ (c .line-at .ensures)
 
--- no `:END:` line from it on, where `still` is false
-none : (c : tie.After-line-at Inv-loop μ-loop) →
+-- what is known is true of the lines from it on
+known : (c : tie.After-line-at Inv-loop μ-loop) →
     let at-loop = c .before .before .before .before .before .before .before .before in
     let args = at-loop .before .before .args in
-    at-loop .loop .still ≡ false → NoEnd (args .text .now) (c .line-at .result .start) (args .scope .end)
-none c z = rw (here c) (in-loop c .before .loop .inv .2 z)
+    Knows (args .text .now) (c .line-at .result .start) (args .to) (at-loop .loop .known)
+known c = rw (here c) (in-loop c .before .loop .inv .2)
 
 next : (c : tie.After-line-at Inv-loop μ-loop) →
     let at-loop = in-loop c .before in
-    (at-loop .loop .at < c .line-at .result .end) × (c .line-at .result .end ≤ at-loop .before .before .args .scope .end)
+    (at-loop .loop .at < c .line-at .result .end) × (c .line-at .result .end ≤ at-loop .before .before .args .to)
 next c = let at-test = in-loop c in lineSpan-next _ _ _ _ (c .line-at .ensures) (at-test .loop-test .taken) (at-test .before .loop .inv .1)
-
-returns-3 : tie.Need-returns-3 Inv-loop μ-loop
-returns-3 c =
-    let at-line = c .before .before in
-    sym (rw (here at-line) at (paragraph-blank _ _ _ (line at-line) (c .before .before .before .before .before .before .before .before .before .before .loop .n) (c .if4 .taken))) ∙ in-loop at-line .before .loop .inv .3
-
-find-rule-requires : tie.Need-find-rule-requires Inv-loop μ-loop
-find-rule-requires c κs = let at-line = c .before .before in record { line = line at-line; ends = none at-line }
 
 returns-4 : tie.Need-returns-4 Inv-loop μ-loop
 returns-4 c =
+    let at-line = c .before .before in
+    let at-loop = c .before .before .before .before .before .before .before .before .before .before in
+    (sym (rw (here at-line) at (paragraph-blank _ _ _ (line at-line) (at-loop .loop .n) (c .if4 .taken))) ∙ at-loop .loop .inv .3, at-loop .loop .inv .2)
+
+find-rule-requires : tie.Need-find-rule-requires Inv-loop μ-loop
+find-rule-requires c κs = let at-line = c .before .before in record { line = line at-line; known = known at-line }
+
+returns-5 : tie.Need-returns-5 Inv-loop μ-loop
+returns-5 c =
     let at-rule = c .before .before in
     let at-line = at-rule .before .before .before in
-    sym (rw (here at-line) at (paragraph-stop _ _ _ (line at-line) _ (at-rule .find-rule .ensures) (c .before .before .before .before .before .before .before .before .before .before .before .before .before .loop .n) _ (c .enum-told .given .1)))
-    ∙ in-loop at-line .before .loop .inv .3
+    let at-loop = c .before .before .before .before .before .before .before .before .before .before .before .before .before in (
+      sym (rw (here at-line) at (paragraph-stop _ _ _ (line at-line) _ (at-rule .find-rule .ensures) (at-loop .loop .n) _ (c .enum-told .given .1)))
+          ∙ at-loop .loop .inv .3,
+      at-loop .loop .inv .2,
+    )
 
-may-end-requires : tie.Need-may-end-requires Inv-loop μ-loop
-may-end-requires c κs = let at-line = c .before .before .before .before .before in record { line = line at-line; ends = none at-line }
+known-after-requires : tie.Need-known-after-requires Inv-loop μ-loop
+known-after-requires c κs = let at-line = c .before .before .before .before .before in record { line = line at-line; known = known at-line }
 
 loop-less-2 : tie.Need-loop-less-2 Inv-loop μ-loop
 loop-less-2 c = omega (arith, next (c .before .before .before .before .before .before))
@@ -96,12 +105,13 @@ loop-again-2 c =
     let at-rule = c .before .before .before in
     let at-test = at-rule .before in
     let at-line = at-test .before .before in
-    let inv = in-loop at-line .before .loop .inv in (
+    let at-loop = c .before .before .before .before .before .before .before .before .before .before .before .before .before .before in
+    let inv = at-loop .loop .inv in (
       next at-line .1,
       inv .1,
-      c .may-end .ensures,
+      c .known-after .ensures,
       rw (here at-line)
-          at (paragraph-pass _ _ _ (line at-line) _ (at-rule .find-rule .ensures) (c .before .before .before .before .before .before .before .before .before .before .before .before .before .before .loop .n) (at-test .if4 .left) (c .before .enum-told2 .given .1))
+          at (paragraph-pass _ _ _ (line at-line) _ (at-rule .find-rule .ensures) (at-loop .loop .n) (at-test .if4 .left) (c .before .enum-told2 .given .1))
           ∙ inv .3,
       omega (arith, next at-line),
     )
@@ -112,14 +122,14 @@ loop-again-2 c =
 end : (c : tie.After-line-end Inv-loop μ-loop) →
     let at-loop = c .before .before .before .before .before .before .before .before in
     let args = at-loop .before .before .args in
-    c .line-end .result ≡ at-loop .loop .at + length (lineIn (args .text .now) (at-loop .loop .at) (args .scope .end))
+    c .line-end .result ≡ at-loop .loop .at + length (lineIn (args .text .now) (at-loop .loop .at) (args .to))
 end c = c .line-end .ensures ∙ after-end _ _ _ _ (indent-run _ _ _ _ (c .before .before .before .before .before .before .run-end .ensures))
 
 loop-less : tie.Need-loop-less Inv-loop μ-loop
 loop-less c =
     let at-test = c .before .before .before .before .before .before .before in
     let args = at-test .before .before .before .args in
-    omega (arith, end c, lineIn-some (args .text .now) (at-test .before .loop .at) (args .scope .end) (at-test .loop-test .taken) (at-test .before .loop .inv .1))
+    omega (arith, end c, lineIn-some (args .text .now) (at-test .before .loop .at) (args .to) (at-test .loop-test .taken) (at-test .before .loop .inv .1))
 
 loop-again : tie.Need-loop-again Inv-loop μ-loop
 loop-again c =
@@ -130,19 +140,16 @@ loop-again c =
     let at-test = at-body .before in
     let inv = at-test .before .loop .inv in
     let args = at-test .before .before .before .args in
-    let some = lineIn-some (args .text .now) (at-test .before .loop .at) (args .scope .end) (at-test .loop-test .taken) (inv .1) in
+    let some = lineIn-some (args .text .now) (at-test .before .loop .at) (args .to) (at-test .loop-test .taken) (inv .1) in
     let plain = at-stop .starts-text .ensures (c .before .if3 .taken) in (
       rw (end c) (lineIn-to _ _ _ (inv .0) (inv .1)),
       inv .1,
-      λ z. rw (end c) (noEnd-line _ _ _ (inv .2 z)),
+      rw (end c) (knows-line _ _ _ _ (inv .2)),
       rw (end c)
           (paragraph-plain _ _ _ (at-test .loop-test .taken) (inv .1) _ (at-body .run-end .ensures) (at-some .if1 .left) _ (at-byte .if2 .left) plain)
           ∙ inv .3,
       omega (arith, end c, some),
     )
-
-returns-5 : tie.Need-returns-5 Inv-loop μ-loop
-returns-5 c = sym (paragraph-none _ _ _ _ (c .loop-test .left)) ∙ c .before .loop .inv .3
 
 pub paragraph-lines-spec : {M : Type 1} → statement M
 paragraph-lines-spec =
@@ -152,22 +159,22 @@ paragraph-lines-spec =
     μ-loop
     loop-holds
     (λ c κs. omega arith)
-    returns
     (λ c. omega arith)
-    returns-2
     (λ c κs. search needs)
     (λ c κs. omega arith)
     (λ c. omega arith)
     loop-less
     loop-again
     (λ c κs. omega arith)
-    returns-3
     find-rule-requires
     (λ c. search needs)
-    returns-4
     (λ c. search needs)
-    may-end-requires
+    known-after-requires
     (λ c. omega arith)
     loop-less-2
     loop-again-2
+    returns
+    returns-2
+    returns-3
+    returns-4
     returns-5)
