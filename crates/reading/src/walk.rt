@@ -1,20 +1,21 @@
 ghost use mathlib.Core.Path.{_≡_};
-ghost use mathlib.Core.Bool.{true, false};
+ghost use mathlib.Core.Bool.{false};
 ghost use Prim.Native.Nat.{_+_, _*_, _≤_, _<_};
 ghost use lib.ListN.{length};
 ghost use Rattle.text.specs.Limits.{depthLimit, textLimit};
 ghost use Rattle.text.specs.LineNumbers.{lineNumber};
 ghost use Rattle.text.specs.Parts.{linesIn};
-ghost use Rattle.rules.specs.Findings.{LineOf, InScope, NoEnd};
+ghost use Rattle.rules.specs.Known.{nothingKnown};
+ghost use Rattle.rules.specs.Findings.{LineOf};
 ghost use Rattle.table.specs.Makers.{childRecord};
 ghost use Rattle.table.specs.Nesting.{depthIn};
 ghost use Rattle.reading.specs.Walk.{Takes, entriesFrom, elementsTo, linesTo, sectionOf, sectionEntries, far};
 ghost use Rattle.reading.specs.Walk.{scopeOf, innerLine, NumberOf, RangeIn, ElementIn, StepAt, SectionAt, recordOf, withHeld};
 use crate::sink::Sink;
 use crate::sink::emit;
-use rules::closer::may_end;
 use rules::element::element_at;
 use rules::kind;
+use rules::known::Known;
 use rules::place::Place;
 use rules::place::first_place;
 use rules::place::next_place;
@@ -121,46 +122,44 @@ fn depth_in(depth: usize, kind: usize) -> usize
     }
 }
 
-// Whether an `:END:` line may still follow the first line of an element of a kind. Only a paragraph's can have failed to open a drawer.
-fn ends_after(text: &[u8], line: LineSpan, scope: Scope, kind: usize) -> bool
-    requires { ⌜ InScope (now text) line scope ⌝ }
-    ensures { λ r. ⌜ (r ≡ false → NoEnd (now (text .entry)) (line .end) (scope .end)) ⌝ }
-{
-    if kind != kind::PARAGRAPH {
-        return scope.ends;
-    }
-    may_end(text, line, scope)
-}
-
 // An element, where the next one starts, the line number there, and what its scope says besides the end.
 pub struct Step {
     pub e: Element,
     pub end: usize,
     pub line: usize,
     pub place: Place,
-    pub ends: bool,
+    pub known: Known,
 }
 
 // The element at a line of a range, and how to go on after it. The scope is taken apart here and in `read_elements`: as a struct it would cost
 // every level of nesting some 50 bytes of stack.
-fn next_element(text: &[u8], at: usize, to: usize, place: Place, ends: bool, number: usize) -> Step
-    requires { ⌜ RangeIn (now text) at (scopeOf to place ends) × (at < to) × (number ≡ lineNumber (now text) at) ⌝ }
+fn next_element(
+    text: &[u8],
+    at: usize,
+    to: usize,
+    place: Place,
+    known: Known,
+    number: usize,
+) -> Step
+    requires { ⌜ RangeIn (now text) at (scopeOf to place known) × (at < to) × (number ≡ lineNumber (now text) at) ⌝ }
     ensures { λ r. ⌜ StepAt (now (text .entry)) at to r ⌝ }
 {
     let scope = Scope {
         end: to,
         place: place,
-        ends: ends,
+        known: known,
     };
     let line = line_at(text, at, to);
-    let e = element_at(text, line, scope);
+    let parsed = element_at(text, line, scope);
+    let e = parsed.element;
+    let after = parsed.known;
     let next = first_line(text, e.end, to);
     Step {
         e: e,
         end: next.at,
         line: number + e.own + next.lines,
         place: next_place(place, e.kind, next.at == e.end),
-        ends: ends_after(text, line, scope, e.kind),
+        known: after,
     }
 }
 
@@ -183,7 +182,7 @@ fn read_elements(
     table: &mut [u32],
     sink: Sink,
 ) -> Reached
-    requires { ⌜ RangeIn (now text) from (scopeOf to place true) × (depth ≤ depthLimit) × (parent ≤ far) × (sink .count ≤ 2 * from + 2) × (from < to → number ≡ lineNumber (now text) from) ⌝ }
+    requires { ⌜ RangeIn (now text) from (scopeOf to place nothingKnown) × (depth ≤ depthLimit) × (parent ≤ far) × (sink .count ≤ 2 * from + 2) × (from < to → number ≡ lineNumber (now text) from) ⌝ }
     ensures { λ r. ⌜ Takes (now (table .entry)) sink (entriesFrom (now (text .entry)) (elementsTo to) parent depth from (sink .count)) (now (table .exit)) (r .sink) ⌝ }
     ensures { λ r. ⌜ (r .sink .count + 2 * from ≤ sink .count + 2 * to) × (from < to → NumberOf (now (text .entry)) to (r .line)) ⌝ }
 {
@@ -196,7 +195,12 @@ fn read_elements(
     let mut at = from;
     let mut n = number;
     let mut out = sink;
-    let mut step = next_element(text, from, to, place, true, n);
+    let nothing = Known {
+        ends: true,
+        asked: false,
+        names: 0,
+    };
+    let mut step = next_element(text, from, to, place, nothing, n);
     loop {
         out = read_element(text, at, step.end, step.e, n, depth, parent, table, out);
         n = step.line;
@@ -205,7 +209,8 @@ fn read_elements(
         }
         at = step.end;
         let here = step.place;
-        step = next_element(text, at, to, here, step.ends, n);
+        let known = step.known;
+        step = next_element(text, at, to, here, known, n);
     }
 }
 

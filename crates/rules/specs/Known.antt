@@ -1,6 +1,6 @@
 -- What is known of the closers that lie ahead, so that a search that must be in vain is not made. No promise of an entry point rests on this.
 use mathlib.Core.Path.{_≡_}
-use mathlib.Core.Bool.{Bool, false, not, _||_}
+use mathlib.Core.Bool.{Bool, true, false, not, _||_}
 use mathlib.Core.List.{List, [], _∷_, _++_}
 use mathlib.Core.Option.{none}
 use Prim.Native.Nat.{ℕ, _+_, _*_, _/_, _%_, _^_}
@@ -35,6 +35,9 @@ Names s p e m = (x : List ℕ) → hasName m x ≡ false → NoLine (word "#+end
 -- the closer of a block named x may stand ahead
 unfoldable pub mayClose : Known → List ℕ → Bool
 mayClose k x = not (k .asked) || hasName (k .names) x
+
+abbrev pub nothingKnown : Known
+nothingKnown = record { ends = true; asked = false; names = 0 }
 
 -- what is known is true of the lines from byte p up to byte e
 pub record Knows (s : List ℕ) (p e : ℕ) (k : Known) : Type 0 where

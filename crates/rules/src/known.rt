@@ -1,10 +1,10 @@
 ghost use mathlib.Core.Path.{_≡_};
-ghost use mathlib.Core.Bool.{true, false};
+ghost use mathlib.Core.Bool.{false};
 ghost use mathlib.Core.List.{List};
 ghost use Prim.Native.Nat.{ℕ, _≤_, _<_};
 ghost use lib.ListN.{length};
 ghost use Rattle.text.specs.Parts.{part};
-ghost use Rattle.rules.specs.Known.{mayClose, nameNumber, hasName, Names};
+ghost use Rattle.rules.specs.Known.{nameNumber, hasName, Names, mayClose};
 use text::bytes::lower;
 use text::line::line_at;
 use text::word::begins_with;
@@ -15,17 +15,6 @@ pub struct Known {
     pub ends: bool,
     pub asked: bool,
     pub names: u64,
-}
-
-// Nothing is known.
-pub fn unknown() -> Known
-    ensures { λ r. ⌜ r ≡ record { ends = true; asked = false; names = 0 } ⌝ }
-{
-    Known {
-        ends: true,
-        asked: false,
-        names: 0,
-    }
 }
 
 // A number below 64 for a name: the same for names that differ in case only.

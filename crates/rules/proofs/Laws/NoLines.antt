@@ -1,7 +1,7 @@
 -- Laws of `NoLine` and `Knows`: what no line from a line on is, none from a later line on is.
 -- Assumes nothing.
 use mathlib.Core.Path.{_≡_, ap}
-use mathlib.Core.Bool.{Bool, true, false}
+use mathlib.Core.Bool.{Bool, true, false, true≢false}
 use mathlib.Core.List.{List, [], _∷_}
 use mathlib.Core.Option.{none, map-eq-none-iff}
 use Prim.Native.Nat.{ℕ, zero, suc, _+_}
@@ -15,7 +15,7 @@ use Rattle.text.specs.declared.line.LineSpan.{LineSpan}
 use Rattle.text.proofs.Laws.Lines.{size-headLine}
 use Rattle.text.proofs.Laws.LinesIn.{linesIn-drop}
 use Rattle.rules.specs.Elements.{Found, linesBefore}
-use Rattle.rules.specs.Known.{NoLine, Names, mayClose, Knows}
+use Rattle.rules.specs.Known.{NoLine, Names, mayClose, nothingKnown, Knows}
 use Rattle.rules.specs.Findings.{LineOf, spanned}
 use Rattle.rules.specs.declared.known.Known.{Known}
 use Rattle.rules.specs.declared.rule.Element.{Element}
@@ -60,3 +60,7 @@ module _ (s : List ℕ) (p e : ℕ) (b : Bool) (h : (b ≡ false → NoLine (wor
   pub knows-asked : (m : ℕ) → Names s p e m → Knows s p e (record { ends = b; asked = true; names = m })
   unfolding mayClose
   knows-asked m n = record { ends = h; names = n }
+
+pub knows-nothing : (s : List ℕ) (p e : ℕ) → Knows s p e nothingKnown
+unfolding mayClose
+knows-nothing s p e = record { ends = λ h. absurd (true≢false h); names = λ x h. absurd (true≢false h) }

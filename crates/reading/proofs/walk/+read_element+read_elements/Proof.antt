@@ -4,7 +4,7 @@
 -- From Turns and Ranges. Assumes nothing.
 use mathlib.Core.Path.{_≡_, refl, sym, ap, _∙_}
 use mathlib.Core.Logic.{inl, inr}
-use mathlib.Core.Bool.{false, true≢false}
+use mathlib.Core.Bool.{false}
 use Prim.Native.Nat.{ℕ, _+_, _-_, _*_, _≤_, _<_}
 use native.Mathlib.Omega.{arith}
 use lib.ListN.{length}
@@ -16,6 +16,7 @@ use Rattle.rules.specs.Kind
 use Rattle.rules.proofs.Laws.Kind.{counts-elements, elements-holder, elements-no-table, isHolder-no}
 use Rattle.reading.specs.Walk.{state, absorbed, entriesFrom, elementsTo, linesTo, innerLine, Range, StepAt}
 use Rattle.table.proofs.Basics.{on}
+use Rattle.rules.proofs.Laws.NoLines.{knows-nothing}
 use Rattle.reading.proofs.Laws.Holders.{depthIn-more, depthIn-same, lines-kind, lines-holder}
 use Rattle.reading.proofs.Laws.Turns.{withHeld-stopped, withHeld-leaf, withHeld-elements, withHeld-lines}
 use Rattle.reading.proofs.Laws.EntriesStep.{entriesFrom-none}
@@ -213,7 +214,7 @@ element-elements-requires t c κs =
     let shallow = at-emit .emit .ensures .1 .1 (at-if .before .before .before .if1 .left) in (
       omega arith,
       (
-        record { range = rw first (inside .2); place = rw first (i .place counts); ends = λ e. absurd (true≢false e) },
+        record { range = rw first (inside .2); place = rw first (i .place counts); known = knows-nothing _ _ _ },
         omega arith,
         omega arith,
         omega arith,
@@ -296,24 +297,24 @@ last t c =
 
 next-requires : (t : ℕ) → read-elements-lts.Need-next-element-requires-2 (elements-calls t) (read-elements-at t) read-elements.Post Inv-loop μ-loop
 next-requires t c κs =
-    let step = c .before .before .before .before .before .before .loop .inv .3 in
+    let step = c .before .before .before .before .before .before .before .loop .inv .3 in
     let rest = step .rest .range in
-    (step .rest, c .if2 .left, step .line (omega arith))
+    (step .rest, c .before .if2 .left, step .line (omega arith))
 
 less : (t : ℕ) → read-elements-lts.Need-loop-less (elements-calls t) (read-elements-at t) read-elements.Post Inv-loop μ-loop
 less t c =
-    let inv = c .before .before .before .before .before .before .before .loop .inv in
+    let inv = c .before .before .before .before .before .before .before .before .loop .inv in
     let lies = inv .3 .lies in
     omega arith
 
 again : (t : ℕ) → read-elements-lts.Need-loop-again (elements-calls t) (read-elements-at t) read-elements.Post Inv-loop μ-loop
 again t c =
-    let at-element = c .before .before .before .before .before in
+    let at-element = c .before .before .before .before .before .before in
     let inv = at-element .before .before .loop .inv in
     let rest = inv .3 .rest .range in
     let lies = inv .3 .lies in (
       omega arith,
-      c .before .if2 .left,
+      c .before .before .if2 .left,
       inv .3 .rest .range,
       c .next-element2 .ensures,
       omega arith,

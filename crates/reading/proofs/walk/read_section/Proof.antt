@@ -2,7 +2,6 @@
 -- elements, from its first line on and at the place that the lines before it give.
 -- Assumes nothing.
 use mathlib.Core.Path.{_≡_, _∙_, ap}
-use mathlib.Core.Bool.{true≢false}
 use Prim.Native.Nat.{_≤_, _<_, _+_}
 use native.Mathlib.Omega.{arith}
 use lib.ListN.{length}
@@ -11,6 +10,7 @@ use Rattle.text.specs.LineNumbers.{lineNumber}
 use Rattle.text.proofs.Laws.LineNumbers.{lineNumber-le}
 use Rattle.rules.specs.Places.{placeAt}
 use Rattle.reading.specs.Walk.{far, Range}
+use Rattle.rules.proofs.Laws.NoLines.{knows-nothing}
 use Rattle.reading.proofs.Laws.SectionPlaces.{section-number, section-blanks, section-end, section-first, section-range, section-place}
 use Rattle.reading.proofs.Laws.Turns.{section-none, section-turn}
 use Rattle.reading.proofs.walk.read_section.Statement.{statement}
@@ -77,7 +77,7 @@ read-elements-requires c κs =
     let at-place = c .before .before .before .before .before in
     let at-first = at-place .before .before .before in
     let bounds = order at-first in (
-      record { range = range at-first; place = λ h. placed at-place; ends = λ e. absurd (true≢false e) },
+      record { range = range at-first; place = λ h. placed at-place; known = knows-nothing _ _ _ },
       omega arith,
       omega arith,
       omega arith,

@@ -188,7 +188,7 @@ returns-2 c =
     let key = start .args .first .now ++ start .args .second .now in
     let inv = at-loop .loop .inv in
     let yes =
-        matched-yes _ _ _ _ _ _ inv (rw length-append (at-end .before .if3 .taken)) _ _ (at-end .line-end2 .ensures) (at-trim .trim-end .ensures) (c .if4 .taken) in
+    matched-yes _ _ _ _ _ _ inv (rw length-append (at-end .before .if3 .taken)) _ _ (at-end .line-end2 .ensures) (at-trim .trim-end .ensures) (c .if4 .taken) in
     searched-is _ _ _ _ _ _
     (rw (at-end .line-end2 .ensures ∙ inv .ends)
     (further-here _ _ _ ∙ ap (further _) (sym (closer-here _ _ _ _ (at-some .if1 .left) (start .pre .1) yes))) ∙ at-line .lines .inv .2)
