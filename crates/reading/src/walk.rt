@@ -1,11 +1,11 @@
 ghost use mathlib.Core.Path.{_≡_};
-ghost use mathlib.Core.Bool.{false};
+ghost use mathlib.Core.Bool.{true, false};
 ghost use Prim.Native.Nat.{_+_, _*_, _≤_, _<_};
 ghost use lib.ListN.{length};
 ghost use Rattle.text.specs.Limits.{depthLimit, textLimit};
 ghost use Rattle.text.specs.LineNumbers.{lineNumber};
 ghost use Rattle.text.specs.Parts.{linesIn};
-ghost use Rattle.rules.specs.Known.{nothingKnown};
+ghost use Rattle.rules.specs.Known.{anyName};
 ghost use Rattle.rules.specs.Findings.{LineOf};
 ghost use Rattle.table.specs.Makers.{childRecord};
 ghost use Rattle.table.specs.Nesting.{depthIn};
@@ -15,7 +15,7 @@ use crate::sink::Sink;
 use crate::sink::emit;
 use rules::element::element_at;
 use rules::kind;
-use rules::known::Known;
+use rules::known::ANY_NAME;
 use rules::place::Place;
 use rules::place::first_place;
 use rules::place::next_place;
@@ -128,7 +128,8 @@ pub struct Step {
     pub end: usize,
     pub line: usize,
     pub place: Place,
-    pub known: Known,
+    pub ends: bool,
+    pub names: u64,
 }
 
 // The element at a line of a range, and how to go on after it. The scope is taken apart here and in `read_elements`: as a struct it would cost
@@ -138,28 +139,30 @@ fn next_element(
     at: usize,
     to: usize,
     place: Place,
-    known: Known,
+    ends: bool,
+    names: u64,
     number: usize,
 ) -> Step
-    requires { ⌜ RangeIn (now text) at (scopeOf to place known) × (at < to) × (number ≡ lineNumber (now text) at) ⌝ }
+    requires { ⌜ RangeIn (now text) at (scopeOf to place ends names) × (at < to) × (number ≡ lineNumber (now text) at) ⌝ }
     ensures { λ r. ⌜ StepAt (now (text .entry)) at to r ⌝ }
 {
     let scope = Scope {
         end: to,
         place: place,
-        known: known,
+        ends: ends,
+        names: names,
     };
     let line = line_at(text, at, to);
     let parsed = element_at(text, line, scope);
     let e = parsed.element;
-    let after = parsed.known;
     let next = first_line(text, e.end, to);
     Step {
         e: e,
         end: next.at,
         line: number + e.own + next.lines,
         place: next_place(place, e.kind, next.at == e.end),
-        known: after,
+        ends: parsed.ends,
+        names: parsed.names,
     }
 }
 
@@ -182,7 +185,7 @@ fn read_elements(
     table: &mut [u32],
     sink: Sink,
 ) -> Reached
-    requires { ⌜ RangeIn (now text) from (scopeOf to place nothingKnown) × (depth ≤ depthLimit) × (parent ≤ far) × (sink .count ≤ 2 * from + 2) × (from < to → number ≡ lineNumber (now text) from) ⌝ }
+    requires { ⌜ RangeIn (now text) from (scopeOf to place true anyName) × (depth ≤ depthLimit) × (parent ≤ far) × (sink .count ≤ 2 * from + 2) × (from < to → number ≡ lineNumber (now text) from) ⌝ }
     ensures { λ r. ⌜ Takes (now (table .entry)) sink (entriesFrom (now (text .entry)) (elementsTo to) parent depth from (sink .count)) (now (table .exit)) (r .sink) ⌝ }
     ensures { λ r. ⌜ (r .sink .count + 2 * from ≤ sink .count + 2 * to) × (from < to → NumberOf (now (text .entry)) to (r .line)) ⌝ }
 {
@@ -195,12 +198,7 @@ fn read_elements(
     let mut at = from;
     let mut n = number;
     let mut out = sink;
-    let nothing = Known {
-        ends: true,
-        asked: false,
-        names: 0,
-    };
-    let mut step = next_element(text, from, to, place, nothing, n);
+    let mut step = next_element(text, from, to, place, true, ANY_NAME, n);
     loop {
         out = read_element(text, at, step.end, step.e, n, depth, parent, table, out);
         n = step.line;
@@ -209,8 +207,7 @@ fn read_elements(
         }
         at = step.end;
         let here = step.place;
-        let known = step.known;
-        step = next_element(text, at, to, here, known, n);
+        step = next_element(text, at, to, here, step.ends, step.names, n);
     }
 }
 

@@ -1,15 +1,14 @@
 ghost use mathlib.Core.Path.{_≡_};
 ghost use Prim.Native.Nat.{_≤_};
 ghost use lib.ListN.{length};
-ghost use Rattle.text.specs.Parts.{part, lineIn};
+ghost use Rattle.text.specs.Parts.{part};
 ghost use Rattle.rules.specs.Names.{numberIn};
-ghost use Rattle.rules.specs.LineTests.{blockName};
 ghost use Rattle.rules.specs.Elements.{block, verbatimNames, greaterDetail};
-ghost use Rattle.rules.specs.Findings.{LineOf, nameEnd, InScope, ruleOn};
+ghost use Rattle.rules.specs.Findings.{InScope, ruleOn};
 use crate::closer::Closer;
 use crate::closer::find_closer;
 use crate::kind;
-use crate::known::may_close;
+use crate::known::has_name;
 use crate::rule::Element;
 use crate::rule::Rule;
 use crate::scope::Scope;
@@ -55,31 +54,20 @@ fn greater_detail(text: &[u8], from: usize, to: usize) -> usize
     3
 }
 
-// Where NAME ends in a line `#+begin_NAME`, whose name starts 8 bytes after its body does; 0 where the line is none.
-pub fn name_end(text: &[u8], line: LineSpan, to: usize) -> usize
-    requires { ⌜ LineOf (now text) line to ⌝ }
-    ensures { λ r. ⌜ r ≡ nameEnd (line .from) (blockName (lineIn (now (text .entry)) (line .start) to)) ⌝ }
-{
-    if !begins_with(text, line.from, line.to, b"#+begin_") {
-        return 0;
-    }
-    let name = line.from + 8;
-    let end = word_end(text, name, line.to);
-    if end == name { 0 } else { end }
-}
-
 // A block, where its closer stands before the end.  [01 rule 3]
 pub fn try_block(text: &[u8], line: LineSpan, scope: Scope) -> Rule
     requires { ⌜ InScope (now text) line scope ⌝ }
     ensures { λ r. ⌜ r ≡ ruleOn block (now (text .entry)) line scope ⌝ }
 {
-    let to = name_end(text, line, scope.end);
-    if to == 0 {
+    if !begins_with(text, line.from, line.to, b"#+begin_") {
         return Rule::Fails;
     }
     let name = line.from + 8;
-    let known = scope.known;
-    if !may_close(text, name, to, known) {
+    let to = word_end(text, name, line.to);
+    if to == name {
+        return Rule::Fails;
+    }
+    if !has_name(scope.names, text, name, to) {
         return Rule::Fails;
     }
     let inner = line.end;

@@ -76,8 +76,7 @@ pub fn try_drawer(text: &[u8], line: LineSpan, scope: Scope) -> Rule
     requires { ⌜ InScope (now text) line scope ⌝ }
     ensures { λ r. ⌜ r ≡ ruleOn drawer (now (text .entry)) line scope ⌝ }
 {
-    let known = scope.known;
-    if !known.ends {
+    if !scope.ends {
         return Rule::Fails;
     }
     if !is_drawer_line(text, line, scope.end) {

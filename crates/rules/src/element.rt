@@ -7,14 +7,14 @@ ghost use Rattle.text.specs.Bytes.{lower};
 ghost use Rattle.rules.specs.Elements.{firstOf, rules3to9, rules1to9};
 ghost use Rattle.rules.specs.Known.{Knows};
 ghost use Rattle.rules.specs.Findings.{InScope, wanting, paragraphRun, ruleOn, elementOn};
-use crate::ahead::known_after;
+use crate::ahead::ends_after;
+use crate::ahead::names_after;
 use crate::block::try_block;
 use crate::drawer::try_drawer;
 use crate::drawer::try_property_drawer;
 use crate::horizontal::try_horizontal_rule;
 use crate::keyword::try_keyword;
 use crate::kind;
-use crate::known::Known;
 use crate::lines::LineClass;
 use crate::lines::LineRun;
 use crate::lines::try_run;
@@ -92,18 +92,21 @@ fn starts_text(b: u8) -> bool
 // The further lines of a paragraph, and what is known of those after them.
 pub struct Further {
     pub run: LineRun,
-    pub known: Known,
+    pub ends: bool,
+    pub names: u64,
 }
 
 // The further lines of a paragraph: up to a blank line, the end, or a line where a rule holds.  [01 rule 10]
 // The first byte after the indentation spares most lines the search for a rule.
-fn paragraph_lines(text: &[u8], from: usize, to: usize, before: Known) -> Further
-    requires { ⌜ (from ≤ to) × (to ≤ length (now text)) × Knows (now text) from to before ⌝ }
-    ensures { λ r. ⌜ (r .run ≡ paragraphRun (now (text .entry)) from to 0) × Knows (now (text .entry)) (r .run .end) to (r .known) ⌝ }
+fn paragraph_lines(text: &[u8], from: usize, scope: Scope) -> Further
+    requires { ⌜ (from ≤ scope .end) × (scope .end ≤ length (now text)) × Knows (now text) from (scope .end) (scope .ends) (scope .names) ⌝ }
+    ensures { λ r. ⌜ (r .run ≡ paragraphRun (now (text .entry)) from (scope .end) 0) × Knows (now (text .entry)) (r .run .end) (scope .end) (r .ends) (r .names) ⌝ }
 {
+    let to = scope.end;
     let mut at = from;
     let mut n = 0;
-    let mut known = before;
+    let mut ends = scope.ends;
+    let mut names = scope.names;
     while at < to {
         let body = run_end(text, at, to, Class::Indent);
         if to <= body {
@@ -124,44 +127,52 @@ fn paragraph_lines(text: &[u8], from: usize, to: usize, before: Known) -> Furthe
             let here = Scope {
                 end: to,
                 place: Place::Elsewhere,
-                known: known,
+                ends: ends,
+                names: names,
             };
             if let Rule::Holds(_) = find_rule(text, line, here) {
                 break;
             }
-            known = known_after(text, line, here);
+            ends = ends_after(text, line, here);
+            names = names_after(text, line, here);
             at = line.end;
             n += 1;
         }
     }
     Further {
         run: LineRun { end: at, lines: n },
-        known: known,
+        ends: ends,
+        names: names,
     }
 }
 
 // An element, and what is known of the lines after its own.
 pub struct Parsed {
     pub element: Element,
-    pub known: Known,
+    pub ends: bool,
+    pub names: u64,
 }
 
 // The element at a line.
 pub fn element_at(text: &[u8], line: LineSpan, scope: Scope) -> Parsed
     requires { ⌜ InScope (now text) line scope ⌝ }
-    ensures { λ r. ⌜ (r .element ≡ elementOn (now (text .entry)) line scope) × Knows (now (text .entry)) (r .element .end) (scope .end) (r .known) ⌝ }
+    ensures { λ r. ⌜ (r .element ≡ elementOn (now (text .entry)) line scope) × Knows (now (text .entry)) (r .element .end) (scope .end) (r .ends) (r .names) ⌝ }
 {
     if let Rule::Holds(e) = find_rule(text, line, scope) {
-        let known = scope.known;
         return Parsed {
             element: e,
-            known: known,
+            ends: scope.ends,
+            names: scope.names,
         };
     }
-    let known = known_after(text, line, scope);
-    let further = paragraph_lines(text, line.end, scope.end, known);
+    let rest = Scope {
+        end: scope.end,
+        place: Place::Elsewhere,
+        ends: ends_after(text, line, scope),
+        names: names_after(text, line, scope),
+    };
+    let further = paragraph_lines(text, line.end, rest);
     let run = further.run;
-    let after = further.known;
     Parsed {
         element: Element {
             kind: kind::PARAGRAPH,
@@ -172,6 +183,7 @@ pub fn element_at(text: &[u8], line: LineSpan, scope: Scope) -> Parsed
             detail: 0,
             lines: 0,
         },
-        known: after,
+        ends: further.ends,
+        names: further.names,
     }
 }

@@ -4,28 +4,23 @@ ghost use mathlib.Core.List.{List};
 ghost use Prim.Native.Nat.{ℕ, _≤_, _<_};
 ghost use lib.ListN.{length};
 ghost use Rattle.text.specs.Parts.{part};
-ghost use Rattle.rules.specs.Known.{nameNumber, hasName, Names, mayClose};
+ghost use Rattle.rules.specs.Known.{nameNumber, hasName, Names};
 use text::bytes::lower;
 use text::line::line_at;
 use text::word::begins_with;
 
-// What is known of the lines from a byte up to an end, so that a search that must be in vain is not made: `ends` is false only where no `:END:`
-// line stands among them, and where `asked` the name of every `#+end_NAME` line is one of `names`.
-pub struct Known {
-    pub ends: bool,
-    pub asked: bool,
-    pub names: u64,
-}
+// Every name may close: nothing is known.
+pub const ANY_NAME: u64 = 18446744073709551615;
 
-// A number below 64 for a name: the same for names that differ in case only.
+// A number below 63 for a name: the same for names that differ in case only.
 fn name_number(text: &[u8], from: usize, to: usize) -> u64
     requires { ⌜ (from ≤ to) × (to ≤ length (now text)) ⌝ }
-    ensures { λ r. ⌜ (r ≡ nameNumber (part (now (text .entry)) from to)) × (r < 64) ⌝ }
+    ensures { λ r. ⌜ (r ≡ nameNumber (part (now (text .entry)) from to)) × (r < 63) ⌝ }
 {
     let mut n: u64 = 0;
     let mut i = from;
     while i < to {
-        n = (n * 5 + lower(text[i]) as u64) % 64;
+        n = (n * 5 + lower(text[i]) as u64) % 63;
         i += 1;
     }
     n
@@ -62,15 +57,4 @@ pub fn closing_names(text: &[u8], from: usize, to: usize) -> u64
         at = line.end;
     }
     names
-}
-
-// Whether the closer of a block may stand ahead; its name is a part of the text.
-pub fn may_close(text: &[u8], from: usize, to: usize, known: Known) -> bool
-    requires { ⌜ (from ≤ to) × (to ≤ length (now text)) ⌝ }
-    ensures { λ r. ⌜ r ≡ mayClose known (part (now (text .entry)) from to) ⌝ }
-{
-    if !known.asked {
-        return true;
-    }
-    has_name(known.names, text, from, to)
 }

@@ -8,7 +8,7 @@ use mathlib.Core.Option.{Option·map}
 use Prim.Native.Nat.{ℕ, suc, _+_, _*_, _/_, _%_, _^_, _≤_, _<_, max}
 use native.Mathlib.Omega.{arith}
 use lib.Dec.{eqb}
-use lib.Bits.{bitOr, or-step, or-shr}
+use lib.Bits.{bitAnd, and-mask, and-comm, and-shr, bitOr, or-step, or-shr}
 use lib.Pow.{shl-exact, shl-shr}
 use lib.ListN.{length, getD, drop}
 use borrow.Table.Steps.{cases}
@@ -20,8 +20,7 @@ use Rattle.text.specs.Spans.{lineSpan}
 use Rattle.text.specs.declared.line.LineSpan.{LineSpan}
 use Rattle.text.proofs.Laws.Parts.{part-nil, part-cons, part-length, part-drop}
 use Rattle.text.proofs.Laws.LinesIn.{linesIn-nil}
-use Rattle.rules.specs.Known.{NoLine, numberFrom, nameNumber, hasName, Names, mayClose}
-use Rattle.rules.specs.declared.known.Known.{Known}
+use Rattle.rules.specs.Known.{NoLine, numberFrom, nameNumber, hasName, anyName, Names}
 use Rattle.rules.proofs.Basics.{and-yes}
 use Rattle.rules.proofs.Laws.LineOf.{lineSpan-start, lineOf, lineOf-order, lineOf-body, lineOf-lines}
 use Rattle.rules.proofs.Laws.Blocks.{begins-length}
@@ -34,7 +33,7 @@ module _ (s : List ℕ) (p e n : ℕ) where
   unfolding numberFrom
   number-end h = rw (part-nil s p e h)
 
-  pub number-step : p < e → e ≤ length s → numberFrom n (part s p e) ≡ numberFrom ((n * 5 + lower (getD s p 0)) % 64) (part s (p + 1) e)
+  pub number-step : p < e → e ≤ length s → numberFrom n (part s p e) ≡ numberFrom ((n * 5 + lower (getD s p 0)) % 63) (part s (p + 1) e)
   unfolding numberFrom
   number-step h k = rw (part-cons s p e h k)
 
@@ -46,11 +45,36 @@ numberFrom-same n [] (c ∷ y) h = absurd (false≢true h)
 numberFrom-same n (b ∷ x) [] h = absurd (false≢true h)
 numberFrom-same n (b ∷ x) (c ∷ y) h =
     let w = and-yes (eqb (lower b) (lower c)) (same x y) h in
-    rw (eqb-true (lower b) (lower c) (w .0)) (numberFrom-same ((n * 5 + lower c) % 64) x y (w .1))
+    rw (eqb-true (lower b) (lower c) (w .0)) (numberFrom-same ((n * 5 + lower c) % 63) x y (w .1))
 
 number-differ : (x y : List ℕ) → (nameNumber y ≡ nameNumber x → ⊥) → same x y ≡ false
 unfolding nameNumber
 number-differ x y h = cases (same x y) (λ t. absurd (h (sym (numberFrom-same 0 x y t)))) (λ t. t)
+
+-- it is below 63
+numberFrom-below : (n : ℕ) (x : List ℕ) → n < 63 → numberFrom n x < 63
+unfolding numberFrom
+numberFrom-below n [] h = h
+numberFrom-below n (b ∷ x) h = numberFrom-below ((n * 5 + lower b) % 63) x (omega arith)
+
+nameNumber-below : (x : List ℕ) → nameNumber x < 63
+unfolding nameNumber
+nameNumber-below x = numberFrom-below 0 x (omega arith)
+
+-- ---- every binary digit
+
+-- of 64 digits 1, digit k: what the digit alone leaves of them
+ones-digit : (k : ℕ) → k < 64 → anyName / 2 ^ k % 2 ≡ 1
+ones-digit k h =
+    let a : ℕ = 1 * 2 ^ k in
+    let one : a / 2 ^ k ≡ 1 = shl-shr 1 k in
+    let whole : bitAnd a anyName ≡ a = and-mask a 64 ∙ shl-exact 1 k 64 (omega arith) (omega arith) in
+    sym (and-mask (anyName / 2 ^ k) 1) ∙ and-comm (anyName / 2 ^ k) 1 ∙ ap (λ (n : ℕ). bitAnd n (anyName / 2 ^ k)) (sym one)
+    ∙ sym (and-shr a anyName k) ∙ ap (λ (n : ℕ). n / 2 ^ k) whole ∙ one
+
+pub hasName-any : (x : List ℕ) → hasName anyName x ≡ true
+unfolding hasName
+hasName-any x = rw (ones-digit (nameNumber x) (omega (arith, nameNumber-below x)))
 
 -- ---- a binary digit more
 
@@ -118,14 +142,3 @@ module _ (s : List ℕ) (l : LineSpan) (q e : ℕ) (g : l ≡ lineSpan s q e) (h
         let w = f x a in
         let rest = number-differ (part s (l .from + 6) (l .to)) x (λ t. w .1 (t ∙ sym j)) in
         v x (w .0) (noLine-pass (word "#+end_" ++ x) (same-append (word "#+end_") x text ∙ rw (i, part-drop s 6 (l .from) (l .to)) rest) n)
-
--- ---- what may close
-
-module _ (k : Known) (x : List ℕ) where
-  pub mayClose-any : k .asked ≡ false → mayClose k x ≡ true
-  unfolding mayClose
-  mayClose-any h = rw h
-
-  pub mayClose-names : k .asked ≡ true → mayClose k x ≡ hasName (k .names) x
-  unfolding mayClose
-  mayClose-names h = rw h

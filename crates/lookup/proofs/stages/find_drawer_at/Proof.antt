@@ -56,7 +56,7 @@ returns-3 : tie.Need-returns-3
 returns-3 c = lines (c .before .before) Nothing (c .enum-told .given .1)
 
 returns-4 : tie.Need-returns-4
-returns-4 c = lines (c .before .before .before) (At _ _ _) (c .before .close .given .1)
+returns-4 c = lines (c .before .before .before) (At _ _ _) (c .before .start .given .1)
 
 pub find-drawer-at-spec : {M : Type 1} → statement M
 find-drawer-at-spec =

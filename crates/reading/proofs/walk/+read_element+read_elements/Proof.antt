@@ -297,24 +297,24 @@ last t c =
 
 next-requires : (t : ℕ) → read-elements-lts.Need-next-element-requires-2 (elements-calls t) (read-elements-at t) read-elements.Post Inv-loop μ-loop
 next-requires t c κs =
-    let step = c .before .before .before .before .before .before .before .loop .inv .3 in
+    let step = c .before .before .before .before .before .before .loop .inv .3 in
     let rest = step .rest .range in
-    (step .rest, c .before .if2 .left, step .line (omega arith))
+    (step .rest, c .if2 .left, step .line (omega arith))
 
 less : (t : ℕ) → read-elements-lts.Need-loop-less (elements-calls t) (read-elements-at t) read-elements.Post Inv-loop μ-loop
 less t c =
-    let inv = c .before .before .before .before .before .before .before .before .loop .inv in
+    let inv = c .before .before .before .before .before .before .before .loop .inv in
     let lies = inv .3 .lies in
     omega arith
 
 again : (t : ℕ) → read-elements-lts.Need-loop-again (elements-calls t) (read-elements-at t) read-elements.Post Inv-loop μ-loop
 again t c =
-    let at-element = c .before .before .before .before .before .before in
+    let at-element = c .before .before .before .before .before in
     let inv = at-element .before .before .loop .inv in
     let rest = inv .3 .rest .range in
     let lies = inv .3 .lies in (
       omega arith,
-      c .before .before .if2 .left,
+      c .before .if2 .left,
       inv .3 .rest .range,
       c .next-element2 .ensures,
       omega arith,

@@ -23,7 +23,7 @@ here c =
     element-is _ _ _ _ _ _ (c .before .line-at .ensures) (pre .0 .place (pre .1)) (c .element-at .ensures .0)
 
 -- the line at `at` is one of the scope
-line : (c : tie.After-line-at) → let a = c .before .before .args in InScope (a .text .now) (c .line-at .result) (scopeOf (a .to) (a .place) (a .known))
+line : (c : tie.After-line-at) → let a = c .before .before .args in InScope (a .text .now) (c .line-at .result) (scopeOf (a .to) (a .place) (a .ends) (a .names))
 line c =
     let pre = c .before .before .pre in
     let is = c .line-at .ensures in
@@ -31,8 +31,8 @@ line c =
 
 first-line-requires : tie.Need-first-line-requires
 first-line-requires c κs =
-    let pre = c .before .before .before .before .before .pre in
-    (element-end _ _ _ (pre .0 .range) (pre .1) _ (here (c .before .before)) .1, pre .0 .range .text)
+    let pre = c .before .before .before .before .pre in
+    (element-end _ _ _ (pre .0 .range) (pre .1) _ (here (c .before)) .1, pre .0 .range .text)
 
 number-le : (c : tie.After-shared-slice-known) → c .before .args .number ≤ length (c .before .args .text .now)
 number-le c =
@@ -41,19 +41,19 @@ number-le c =
     omega (arith, pre .2, lineNumber-le (c .before .args .text .now) (c .before .args .at))
 
 -- so many lines are its own and blank
-lines : (c : tie.After-first-line) → let a = c .before .before .before .before .before .before .args in
-    let n = c .before .before .before .element-at .result .element .own + c .first-line .result .lines in
+lines : (c : tie.After-first-line) → let a = c .before .before .before .before .before .args in
+    let n = c .before .before .element-at .result .element .own + c .first-line .result .lines in
     let s = a .text .now in
     let b = c .first-line .result .at in
     (n ≤ length s) × (b < length s → lineNumber s b ≡ lineNumber s (a .at) + n)
 lines c =
-    let pre = c .before .before .before .before .before .before .pre in
-    element-lines _ _ _ (pre .0 .range) (pre .1) _ (here (c .before .before .before)) _ (c .first-line .ensures .0) _ (c .first-line .ensures .1)
+    let pre = c .before .before .before .before .before .pre in
+    element-lines _ _ _ (pre .0 .range) (pre .1) _ (here (c .before .before)) _ (c .first-line .ensures .0) _ (c .first-line .ensures .1)
 
 returns : tie.Need-returns
 returns c =
     let at-first = c .before .before .before .before .before in
-    let at-element = at-first .before .before .before in
+    let at-element = at-first .before .before in
     let at-line = at-element .before in
     let (known, some, number) = at-line .before .before .pre in
     let range = known .range in
@@ -67,7 +67,7 @@ returns c =
       rest = record {
         range = range-rest _ _ _ range some _ is _ next;
         place = λ h. c .next-place .ensures ∙ rw (known .place some) (sym (range-place _ _ _ range some _ is _ next));
-        known = known-rest _ _ _ range some _ is _ next _ (at-element .element-at .ensures .1);
+        known = known-rest _ _ _ range some _ is _ next _ _ (at-element .element-at .ensures .1);
       };
     }
 
@@ -78,7 +78,7 @@ next-element-spec =
     (λ c κs. search needs)
     (λ c κs. line c)
     first-line-requires
-    (λ c. omega (arith, lines (c .before), number-le (c .before .before .before .before .before .before)))
-    (λ c. omega (arith, lines (c .before .before), number-le (c .before .before .before .before .before .before .before)))
+    (λ c. omega (arith, lines (c .before), number-le (c .before .before .before .before .before)))
+    (λ c. omega (arith, lines (c .before .before), number-le (c .before .before .before .before .before .before)))
     (λ c κs. search needs)
     returns)

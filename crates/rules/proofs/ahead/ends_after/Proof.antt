@@ -13,11 +13,11 @@ use Rattle.rules.proofs.ahead.ends_after.Tie as tie
 
 returns : tie.Need-returns
 returns c z =
-    let pre = c .before .before .before .before .pre in
-    knows-next _ _ _ _ (pre .line) (pre .known) .ends (not-true _ (c .if1 .taken))
+    let pre = c .before .before .before .pre in
+    knows-next _ _ _ _ _ (pre .line) (pre .known) .ends (not-true _ (c .if1 .taken))
 
 find-end-requires : tie.Need-find-end-requires
-find-end-requires c κs = let o = lineOf-order _ _ _ (c .before .before .before .before .before .before .pre .line) in (o .4, o .5)
+find-end-requires c κs = let o = lineOf-order _ _ _ (c .before .before .before .before .before .pre .line) in (o .4, o .5)
 
 returns-3 : tie.Need-returns-3
 returns-3 c z = closer-nothing _ _ _ _ (sym (c .enum-told2 .given .1) ∙ searched-closer _ _ _ _ _ (c .before .before .find-end .ensures))
@@ -27,7 +27,7 @@ ends-after-spec =
     tie.close
     (tie.spec
     returns
-    (λ c κs. c .before .before .before .before .pre .line)
+    (λ c κs. c .before .before .before .pre .line)
     (λ c z. absurd (true≢false z))
     find-end-requires
     (λ c. search needs)

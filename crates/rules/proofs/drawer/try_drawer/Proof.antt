@@ -17,27 +17,27 @@ use Rattle.rules.proofs.drawer.try_drawer.Tie as tie
 
 returns : tie.Need-returns
 returns c =
-    let pre = c .before .before .before .before .pre in
-    drawer-none _ _ _ (pre .line) (knows-next _ _ _ _ (pre .line) (pre .known) .ends (not-true _ (c .if1 .taken)))
+    let pre = c .before .before .before .pre in
+    drawer-none _ _ _ (pre .line) (knows-next _ _ _ _ _ (pre .line) (pre .known) .ends (not-true _ (c .if1 .taken)))
 
 returns-2 : tie.Need-returns-2
 returns-2 c =
-    drawer-no _ _ _ (c .before .before .before .before .before .before .pre .line) (sym (c .before .is-drawer-line .ensures) ∙ not-true _ (c .if2 .taken))
+    drawer-no _ _ _ (c .before .before .before .before .before .pre .line) (sym (c .before .is-drawer-line .ensures) ∙ not-true _ (c .if2 .taken))
 
 find-end-requires : tie.Need-find-end-requires
-find-end-requires c κs = let o = lineOf-order _ _ _ (c .before .before .before .before .before .before .pre .line) in (o .4, o .5)
+find-end-requires c κs = let o = lineOf-order _ _ _ (c .before .before .before .before .before .pre .line) in (o .4, o .5)
 
 returns-3 : tie.Need-returns-3
 returns-3 c =
     let at-closer = c .before .before in
     let at-line = at-closer .before in
-    drawer-closer _ _ _ (at-line .before .before .before .before .before .before .pre .line) (sym (at-line .before .is-drawer-line .ensures) ∙ not-false _ (at-line .if2 .left)) _
+    drawer-closer _ _ _ (at-line .before .before .before .before .before .pre .line) (sym (at-line .before .is-drawer-line .ensures) ∙ not-false _ (at-line .if2 .left)) _
     (sym (c .enum-told .given .1) ∙ searched-closer _ _ _ _ _ (at-closer .find-end .ensures))
 
-add : tie.Need-add-t13
+add : tie.Need-add-t12
 add c =
     let at-closer = c .before .before .before in
-    let start = at-closer .before .before .before .before .before .before .before in
+    let start = at-closer .before .before .before .before .before .before in
     let s = start .args .text .now in
     let l = start .args .line in
     let e = start .args .scope .end in
@@ -53,7 +53,7 @@ returns-4 : tie.Need-returns-4
 returns-4 c =
     let at-closer = c .before .before .before in
     let at-line = at-closer .before in
-    drawer-closer _ _ _ (at-line .before .before .before .before .before .before .pre .line) (sym (at-line .before .is-drawer-line .ensures) ∙ not-false _ (at-line .if2 .left)) _
+    drawer-closer _ _ _ (at-line .before .before .before .before .before .pre .line) (sym (at-line .before .is-drawer-line .ensures) ∙ not-false _ (at-line .if2 .left)) _
     (sym (c .before .closer .given .1) ∙ searched-closer _ _ _ _ _ (at-closer .find-end .ensures))
 
 pub try-drawer-spec : {M : Type 1} → statement M
@@ -61,7 +61,7 @@ try-drawer-spec =
     tie.close
     (tie.spec
     returns
-    (λ c κs. c .before .before .before .before .pre .line)
+    (λ c κs. c .before .before .before .pre .line)
     returns-2
     find-end-requires
     (λ c. search needs)

@@ -17,21 +17,21 @@ use Rattle.rules.proofs.element.element_at.Tie as tie
 
 returns : tie.Need-returns
 returns c =
-    let at-element = c .before .before in
+    let at-element = c .before in
     let at-rule = at-element .before .before in
     let is = element-holds _ _ _ _ (sym (at-element .e .given .1) ∙ at-rule .find-rule .ensures) in
-    (is, knows-element _ _ _ _ (at-rule .before .before .pre .known) _ _ is)
+    (is, knows-element _ _ _ _ _ (at-rule .before .before .pre .known) _ _ is)
 
 paragraph-lines-requires : tie.Need-paragraph-lines-requires
 paragraph-lines-requires c κs =
-    let o = lineOf-order _ _ _ (c .before .before .before .before .before .pre .line) in
-    (o .4, o .5, c .known-after .ensures)
+    let o = lineOf-order _ _ _ (c .before .before .before .before .before .before .pre .line) in
+    (o .4, o .5, record { ends = c .before .ends-after .ensures; names = c .names-after .ensures })
 
-add : tie.Need-add-t11
+add : tie.Need-add-t12
 unfolding paragraphRun
 add c =
-    let at-lines = c .before .before .before in
-    let start = at-lines .before .before .before .before .before .before in
+    let at-lines = c .before .before in
+    let start = at-lines .before .before .before .before .before .before .before in
     let s = start .args .text .now in
     let l = start .args .line in
     let e = start .args .scope .end in
@@ -40,8 +40,8 @@ add c =
 
 returns-2 : tie.Need-returns-2
 returns-2 c =
-    let at-lines = c .before .before .before in
-    let at-told = at-lines .before .before in
+    let at-lines = c .before .before in
+    let at-told = at-lines .before .before .before in
     let at-rule = at-told .before .before in
     let further = at-lines .paragraph-lines .ensures in (
       rw (element-fails _ _ _ (sym (at-told .enum-told .given .1) ∙ at-rule .find-rule .ensures))
@@ -57,6 +57,7 @@ element-at-spec =
     (λ c. search needs)
     returns
     (λ c. search needs)
+    (λ c κs. search needs)
     (λ c κs. search needs)
     paragraph-lines-requires
     add

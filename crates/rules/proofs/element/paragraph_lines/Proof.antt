@@ -19,11 +19,11 @@ use Rattle.rules.proofs.element.paragraph_lines.Statement.{statement}
 use Rattle.rules.proofs.element.paragraph_lines.Tie as tie
 
 abbrev Inv-loop : tie.InvT-loop
-Inv-loop text from to at₀ n₀ known₀ at n known =
-    (at ≤ to) × (to ≤ length text) × Knows text at to known × (paragraphRun text at to n ≡ paragraphRun text from to 0) × (n ≤ at)
+Inv-loop text from to at₀ n₀ ends₀ names₀ at n ends names =
+    (at ≤ to) × (to ≤ length text) × Knows text at to ends names × (paragraphRun text at to n ≡ paragraphRun text from to 0) × (n ≤ at)
 
 abbrev μ-loop : tie.MeasureT-loop
-μ-loop text from to at₀ n₀ known₀ at n known = to - at
+μ-loop text from to at₀ n₀ ends₀ names₀ at n ends names = to - at
 
 loop-holds : tie.Need-loop-holds Inv-loop μ-loop
 loop-holds c = let start = c .before in (start .pre .0, start .pre .1, start .pre .2, refl, omega arith)
@@ -56,7 +56,7 @@ in-loop c = c .before .before .before .before .before .before .before
 
 -- the line at `at`
 line : (c : tie.After-line-at Inv-loop μ-loop) → let args = in-loop c .before .before .before .args in
-    LineOf (args .text .now) (c .line-at .result) (args .to)
+    LineOf (args .text .now) (c .line-at .result) (args .scope .end)
 line c = let at-test = in-loop c in lineOf _ _ _ _ (at-test .loop-test .taken) (at-test .before .loop .inv .1) (c .line-at .ensures)
 
 -- it starts there
@@ -67,12 +67,12 @@ here c = lineSpan-start _ _ _ _ (c .line-at .ensures)
 known : (c : tie.After-line-at Inv-loop μ-loop) →
     let at-loop = c .before .before .before .before .before .before .before .before in
     let args = at-loop .before .before .args in
-    Knows (args .text .now) (c .line-at .result .start) (args .to) (at-loop .loop .known)
+    Knows (args .text .now) (c .line-at .result .start) (args .scope .end) (at-loop .loop .ends) (at-loop .loop .names)
 known c = rw (here c) (in-loop c .before .loop .inv .2)
 
 next : (c : tie.After-line-at Inv-loop μ-loop) →
     let at-loop = in-loop c .before in
-    (at-loop .loop .at < c .line-at .result .end) × (c .line-at .result .end ≤ at-loop .before .before .args .to)
+    (at-loop .loop .at < c .line-at .result .end) × (c .line-at .result .end ≤ at-loop .before .before .args .scope .end)
 next c = let at-test = in-loop c in lineSpan-next _ _ _ _ (c .line-at .ensures) (at-test .loop-test .taken) (at-test .before .loop .inv .1)
 
 returns-4 : tie.Need-returns-4 Inv-loop μ-loop
@@ -94,24 +94,28 @@ returns-5 c =
       at-loop .loop .inv .2,
     )
 
-known-after-requires : tie.Need-known-after-requires Inv-loop μ-loop
-known-after-requires c κs = let at-line = c .before .before .before .before .before in record { line = line at-line; known = known at-line }
+ends-after-requires : tie.Need-ends-after-requires Inv-loop μ-loop
+ends-after-requires c κs = let at-line = c .before .before .before .before .before in record { line = line at-line; known = known at-line }
+
+names-after-requires : tie.Need-names-after-requires Inv-loop μ-loop
+names-after-requires c κs = let at-line = c .before .before .before .before .before .before in record { line = line at-line; known = known at-line }
 
 loop-less-2 : tie.Need-loop-less-2 Inv-loop μ-loop
-loop-less-2 c = omega (arith, next (c .before .before .before .before .before .before))
+loop-less-2 c = omega (arith, next (c .before .before .before .before .before .before .before))
 
 loop-again-2 : tie.Need-loop-again-2 Inv-loop μ-loop
 loop-again-2 c =
-    let at-rule = c .before .before .before in
+    let at-ends = c .before in
+    let at-rule = at-ends .before .before .before in
     let at-test = at-rule .before in
     let at-line = at-test .before .before in
-    let at-loop = c .before .before .before .before .before .before .before .before .before .before .before .before .before .before in
+    let at-loop = c .before .before .before .before .before .before .before .before .before .before .before .before .before .before .before in
     let inv = at-loop .loop .inv in (
       next at-line .1,
       inv .1,
-      c .known-after .ensures,
+      record { ends = at-ends .ends-after .ensures; names = c .names-after .ensures },
       rw (here at-line)
-          at (paragraph-pass _ _ _ (line at-line) _ (at-rule .find-rule .ensures) (at-loop .loop .n) (at-test .if4 .left) (c .before .enum-told2 .given .1))
+          at (paragraph-pass _ _ _ (line at-line) _ (at-rule .find-rule .ensures) (at-loop .loop .n) (at-test .if4 .left) (at-ends .before .enum-told2 .given .1))
           ∙ inv .3,
       omega (arith, next at-line),
     )
@@ -122,14 +126,14 @@ loop-again-2 c =
 end : (c : tie.After-line-end Inv-loop μ-loop) →
     let at-loop = c .before .before .before .before .before .before .before .before in
     let args = at-loop .before .before .args in
-    c .line-end .result ≡ at-loop .loop .at + length (lineIn (args .text .now) (at-loop .loop .at) (args .to))
+    c .line-end .result ≡ at-loop .loop .at + length (lineIn (args .text .now) (at-loop .loop .at) (args .scope .end))
 end c = c .line-end .ensures ∙ after-end _ _ _ _ (indent-run _ _ _ _ (c .before .before .before .before .before .before .run-end .ensures))
 
 loop-less : tie.Need-loop-less Inv-loop μ-loop
 loop-less c =
     let at-test = c .before .before .before .before .before .before .before in
     let args = at-test .before .before .before .args in
-    omega (arith, end c, lineIn-some (args .text .now) (at-test .before .loop .at) (args .to) (at-test .loop-test .taken) (at-test .before .loop .inv .1))
+    omega (arith, end c, lineIn-some (args .text .now) (at-test .before .loop .at) (args .scope .end) (at-test .loop-test .taken) (at-test .before .loop .inv .1))
 
 loop-again : tie.Need-loop-again Inv-loop μ-loop
 loop-again c =
@@ -140,11 +144,11 @@ loop-again c =
     let at-test = at-body .before in
     let inv = at-test .before .loop .inv in
     let args = at-test .before .before .before .args in
-    let some = lineIn-some (args .text .now) (at-test .before .loop .at) (args .to) (at-test .loop-test .taken) (inv .1) in
+    let some = lineIn-some (args .text .now) (at-test .before .loop .at) (args .scope .end) (at-test .loop-test .taken) (inv .1) in
     let plain = at-stop .starts-text .ensures (c .before .if3 .taken) in (
       rw (end c) (lineIn-to _ _ _ (inv .0) (inv .1)),
       inv .1,
-      rw (end c) (knows-line _ _ _ _ (inv .2)),
+      rw (end c) (knows-line _ _ _ _ _ (inv .2)),
       rw (end c)
           (paragraph-plain _ _ _ (at-test .loop-test .taken) (inv .1) _ (at-body .run-end .ensures) (at-some .if1 .left) _ (at-byte .if2 .left) plain)
           ∙ inv .3,
@@ -169,7 +173,8 @@ paragraph-lines-spec =
     find-rule-requires
     (λ c. search needs)
     (λ c. search needs)
-    known-after-requires
+    ends-after-requires
+    names-after-requires
     (λ c. omega arith)
     loop-less-2
     loop-again-2

@@ -14,7 +14,7 @@ use Rattle.rules.proofs.known.name_number.Tie as tie
 
 abbrev Inv-loop : tie.InvT-loop
 Inv-loop text from to n₀ i₀ n i =
-    (i ≤ to) × (to ≤ length text) × (n < 64) × (numberFrom n (part text i to) ≡ nameNumber (part text from to))
+    (i ≤ to) × (to ≤ length text) × (n < 63) × (numberFrom n (part text i to) ≡ nameNumber (part text from to))
 
 abbrev μ-loop : tie.MeasureT-loop
 μ-loop text from to n₀ i₀ n i = to - i
