@@ -8,6 +8,7 @@ ghost use Rattle.rules.specs.Findings.{InScope, ruleOn};
 use crate::closer::Closer;
 use crate::closer::find_closer;
 use crate::kind;
+use crate::known::ANY_NAME;
 use crate::known::has_name;
 use crate::rule::Element;
 use crate::rule::Rule;
@@ -67,7 +68,7 @@ pub fn try_block(text: &[u8], line: LineSpan, scope: Scope) -> Rule
     if to == name {
         return Rule::Fails;
     }
-    if !has_name(scope.names, text, name, to) {
+    if scope.names != ANY_NAME && !has_name(scope.names, text, name, to) {
         return Rule::Fails;
     }
     let inner = line.end;

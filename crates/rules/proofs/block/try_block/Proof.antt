@@ -54,12 +54,12 @@ ends c =
 -- no closer may stand ahead
 returns-3 : tie.Need-returns-3
 returns-3 c =
-    let at-test = c .before .before in
+    let at-test = c .before .before .before .before in
     let at-name = at-test .before in
     let at-begin = at-name .before .before in
     let pre = at-begin .before .before .before .before .pre in
     block-open _ _ _ (pre .line) (begin at-begin) _ (at-name .word-end .ensures) (at-test .if2 .left)
-    (knows-next _ _ _ _ _ (pre .line) (pre .known) .names _ (sym (c .before .has-name .ensures) ∙ not-true _ (c .if3 .taken)))
+    (knows-next _ _ _ _ _ (pre .line) (pre .known) .names _ (sym (c .before .has-name .ensures) ∙ not-true _ (c .if4 .taken)))
 
 find-closer-requires : tie.Need-find-closer-requires
 unfolding word
@@ -115,7 +115,7 @@ returns-5 c =
     let at-name = at-test .before in
     let at-begin = at-name .before .before in
     block-verbatim _ _ _ (at-begin .before .before .before .before .pre .line) (begin at-begin) _ (at-name .word-end .ensures) (at-test .if2 .left) _
-    (sym (at-close .closer .given .1) ∙ closer at-closer) _ (at-detail .verbatim-detail .ensures) (c .if4 .taken)
+    (sym (at-close .closer .given .1) ∙ closer at-closer) _ (at-detail .verbatim-detail .ensures) (c .if5 .taken)
 
 returns-6 : tie.Need-returns-6
 returns-6 c =
@@ -126,7 +126,7 @@ returns-6 c =
     let at-name = at-test .before in
     let at-begin = at-name .before .before in
     block-greater _ _ _ (at-begin .before .before .before .before .pre .line) (begin at-begin) _ (at-name .word-end .ensures) (at-test .if2 .left) _
-    (sym (at-close .closer .given .1) ∙ closer at-closer) _ (at-detail .verbatim-detail .ensures) (c .before .if4 .left) _ (c .greater-detail .ensures)
+    (sym (at-close .closer .given .1) ∙ closer at-closer) _ (at-detail .verbatim-detail .ensures) (c .before .if5 .left) _ (c .greater-detail .ensures)
 
 pub try-block-spec : {M : Type 1} → statement M
 try-block-spec =
@@ -138,7 +138,7 @@ try-block-spec =
     (λ c. omega (arith, name (c .before)))
     (λ c κs. omega (arith, name (c .before)))
     returns-2
-    (λ c κs. omega (arith, ends (c .before)))
+    (λ c κs. omega (arith, ends (c .before .before .before)))
     returns-3
     (λ c. search needs)
     (λ c. omega (arith, ends (c .before .before .before .before)))
