@@ -1,4 +1,4 @@
--- What the C interface promises: the promises of the two entry points, in document 01's numbers.
+-- What the C interface promises: the promises of the entry points, in the numbers of documents 01 and 02.
 use mathlib.Core.Path.{_≡_}
 use mathlib.Core.List.{List}
 use Prim.Native.Nat.{ℕ}
@@ -7,12 +7,29 @@ use Rattle.reading.specs.Answers.{number, count}
 use Rattle.reading.specs.Promises.{Settled}
 use Rattle.lookup.specs.Lookup as Lookup
 use Rattle.lookup.specs.Promises.{Tied}
+use Rattle.rules.specs.Closers.{searchFrom}
+use Rattle.rules.specs.declared.closer.Closer.{Closer}
+use Rattle.rules.specs.declared.closer.Closer.the-variants.{At, Nothing}
 use Rattle.comaltzex.specs.declared.Reading.{Reading}
 use Rattle.comaltzex.specs.declared.Value.{Value}
+use Rattle.comaltzex.specs.declared.ClosingLine.{ClosingLine}
 
 -- the version of the interface: another one whenever an answer, the record's width or a function's signature changes
 abbrev pub version : ℕ
-version = 2
+version = 3
+
+-- a closer in numbers: whether there is one, and its line's ends; all 0 where there is none
+abbrev pub foundNumber : Closer → ℕ
+foundNumber (At a e n) = 1
+foundNumber Nothing = 0
+
+abbrev pub closerStart : Closer → ℕ
+closerStart (At a e n) = a
+closerStart Nothing = 0
+
+abbrev pub closerEnd : Closer → ℕ
+closerEnd (At a e n) = e
+closerEnd Nothing = 0
 
 -- a reading call with text s and lent table t answers r and leaves t′
 pub record ReadsAs (s t : List ℕ) (r : Reading) (t′ : List ℕ) : Type 0 where
@@ -27,3 +44,10 @@ pub record LooksUpAs (s : List ℕ) (p : ℕ) (k : List ℕ) (r : Value) : Type 
   pub start : r .start ≡ Lookup.start (Lookup.lookup s p k)
   pub end : r .end ≡ Lookup.end (Lookup.lookup s p k)
   pub tied : Tied s p k (Lookup.lookup s p k)
+
+-- a search from byte p in a container that ends at byte e of text s answers r
+pub record SearchesAs (s : List ℕ) (p e : ℕ) (r : ClosingLine) : Type 0 where
+  pub found : r .found ≡ foundNumber (searchFrom s p e .closer)
+  pub start : r .start ≡ closerStart (searchFrom s p e .closer)
+  pub end : r .end ≡ closerEnd (searchFrom s p e .closer)
+  pub compared : r .compared ≡ searchFrom s p e .compared

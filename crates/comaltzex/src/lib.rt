@@ -1,16 +1,18 @@
 // The C interface: numbers in, numbers out. A slice is passed as a pointer and then a length.
 ghost use mathlib.Core.Path.{_≡_};
 ghost use Rattle.table.specs.Records.{recordSize};
-ghost use Rattle.comaltzex.specs.Numbers.{ReadsAs, LooksUpAs, version};
+ghost use Rattle.comaltzex.specs.Numbers.{ReadsAs, LooksUpAs, SearchesAs, version};
 use lookup::lookup::Answer as Lookup;
 use lookup::lookup::lookup;
 use reading::answer::Answer;
 use reading::read::read;
+use rules::closer::Closer;
+use rules::opener::search_from;
 use table::record;
 use text::number;
 
 // The version of this interface, as specs/Numbers has it.
-const VERSION: u32 = 2;
+const VERSION: u32 = 3;
 
 // The number of a reading call's answer and its count.
 #[repr(C)]
@@ -77,6 +79,42 @@ fn refused(number: u32) -> Value
         number: number,
         start: 0,
         end: 0,
+    }
+}
+
+// What a search for a closer finds: 1 where there is one, else 0; its line's start and end, else 0; and how many lines it compared further.
+#[repr(C)]
+pub struct ClosingLine {
+    pub found: u32,
+    pub start: usize,
+    pub end: usize,
+    pub compared: usize,
+}
+
+// Searches for the closer of the block or drawer whose opening line starts at a byte, in a container that ends at a byte.
+#[no_mangle]
+pub extern "C" fn comaltzex_find_closer(text: &[u8], at: usize, end: usize) -> ClosingLine
+    ensures { λ r. ⌜ SearchesAs (now (text .entry)) at end r ⌝ }
+{
+    let search = search_from(text, at, end);
+    let closer = search.closer;
+    match closer {
+        Closer::At {
+            start,
+            end,
+            before: _,
+        } => ClosingLine {
+            found: 1,
+            start: start,
+            end: end,
+            compared: search.compared,
+        },
+        Closer::Nothing => ClosingLine {
+            found: 0,
+            start: 0,
+            end: 0,
+            compared: search.compared,
+        },
     }
 }
 

@@ -34,12 +34,12 @@ compared x (l ∷ ls) =
 unfoldable pub searched : List ℕ → List ℕ → ℕ → ℕ → Search
 searched x s p e = let ls = linesIn s p e in record { closer = closerAt p ls (linesBefore x ls); compared = compared x ls }
 
--- the closer that an opening line asks for: `#+end_NAME` after `#+begin_NAME`, `:END:` after `:NAME:`
+-- the closer that an opening line asks for: `:END:` after `:NAME:`, `#+end_NAME` after `#+begin_NAME`
 unfoldable pub closerOf : Line → Option (List ℕ)
 closerOf l =
     let x = blockName l in
-    elim (isEmpty x)
-    [ false ↦ some (word "#+end_" ++ x) | true ↦ elim (isDrawerLine l) [ true ↦ some (word ":end:") | false ↦ none ] ]
+    elim (isDrawerLine l)
+    [ true ↦ some (word ":end:") | false ↦ elim (isEmpty x) [ true ↦ none | false ↦ some (word "#+end_" ++ x) ] ]
 
 -- where there is nothing to search
 abbrev pub noSearch : Search

@@ -40,23 +40,9 @@ pub fn ends_after(text: &[u8], line: LineSpan, scope: Scope) -> bool
     true
 }
 
-// The names that may still close a block after a line that starts no element: collected only at a line that could have opened one.
+// The names that may still close a block after a line that starts no element. They are collected anew where the line opens a block whose closer
+// was sought in vain.
 pub fn names_after(text: &[u8], line: LineSpan, scope: Scope) -> u64
-    requires { ⌜ InScope (now text) line scope ⌝ }
-    ensures { λ r. ⌜ Names (now (text .entry)) (line .end) (scope .end) r ⌝ }
-{
-    let from = line.from;
-    if line.to <= from {
-        return scope.names;
-    }
-    if text[from] != b'#' {
-        return scope.names;
-    }
-    names_after_hash(text, line, scope)
-}
-
-// The same after a line that starts with `#`. The names are collected anew where the closer of a block was sought in vain.
-fn names_after_hash(text: &[u8], line: LineSpan, scope: Scope) -> u64
     requires { ⌜ InScope (now text) line scope ⌝ }
     ensures { λ r. ⌜ Names (now (text .entry)) (line .end) (scope .end) r ⌝ }
 {

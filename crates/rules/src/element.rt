@@ -2,11 +2,13 @@ ghost use mathlib.Core.Path.{_≡_};
 ghost use mathlib.Core.Bool.{true};
 ghost use mathlib.Core.List.{[]};
 ghost use Prim.Native.Nat.{_≤_};
-ghost use lib.ListN.{length};
+ghost use lib.ListN.{length, getD};
 ghost use Rattle.text.specs.Bytes.{lower};
+ghost use Rattle.text.specs.Lines.{body};
+ghost use Rattle.text.specs.Parts.{lineIn};
 ghost use Rattle.rules.specs.Elements.{firstOf, rules3to9, rules1to9};
 ghost use Rattle.rules.specs.Known.{Knows};
-ghost use Rattle.rules.specs.Findings.{InScope, wanting, paragraphRun, ruleOn, elementOn};
+ghost use Rattle.rules.specs.Findings.{LineOf, InScope, wanting, paragraphRun, ruleOn, elementOn};
 use crate::ahead::ends_after;
 use crate::ahead::names_after;
 use crate::block::try_block;
@@ -133,8 +135,12 @@ fn paragraph_lines(text: &[u8], from: usize, scope: Scope) -> Further
             if let Rule::Holds(_) = find_rule(text, line, here) {
                 break;
             }
-            ends = ends_after(text, line, here);
-            names = names_after(text, line, here);
+            if first == b':' {
+                ends = ends_after(text, line, here);
+            }
+            if first == b'#' {
+                names = names_after(text, line, here);
+            }
             at = line.end;
             n += 1;
         }
@@ -144,6 +150,15 @@ fn paragraph_lines(text: &[u8], from: usize, scope: Scope) -> Further
         ends: ends,
         names: names,
     }
+}
+
+// The first byte of a line's body; 0 where it has none.
+fn first_byte(text: &[u8], line: LineSpan, to: usize) -> u8
+    requires { ⌜ LineOf (now text) line to ⌝ }
+    ensures { λ r. ⌜ r ≡ getD (body (lineIn (now (text .entry)) (line .start) to)) 0 0 ⌝ }
+{
+    let from = line.from;
+    if line.to <= from { 0 } else { text[from] }
 }
 
 // An element, and what is known of the lines after its own.
@@ -165,11 +180,20 @@ pub fn element_at(text: &[u8], line: LineSpan, scope: Scope) -> Parsed
             names: scope.names,
         };
     }
+    let first = first_byte(text, line, scope.end);
+    let mut ends = scope.ends;
+    let mut names = scope.names;
+    if first == b':' {
+        ends = ends_after(text, line, scope);
+    }
+    if first == b'#' {
+        names = names_after(text, line, scope);
+    }
     let rest = Scope {
         end: scope.end,
         place: Place::Elsewhere,
-        ends: ends_after(text, line, scope),
-        names: names_after(text, line, scope),
+        ends: ends,
+        names: names,
     };
     let further = paragraph_lines(text, line.end, rest);
     let run = further.run;

@@ -1,14 +1,18 @@
 -- `rules::element::element_at` meets its contract: what the first rule finds, or a paragraph where none holds.
 -- Assumes nothing.
 use mathlib.Core.Path.{_≡_, sym, ap, _∙_}
+use mathlib.Core.Bool.{false}
+use mathlib.Core.Logic.{⊎-elim}
 use native.Mathlib.Omega.{arith}
 use borrow.Author.Needs.{needs}
+use Rattle.text.specs.Runs.{word}
 use Rattle.text.specs.Parts.{linesIn}
 use Rattle.text.proofs.Laws.LinesIn.{linesIn-length}
 use Rattle.rules.specs.declared.lines.LineRun.{LineRun}
+use Rattle.rules.specs.Known.{NoLine, hasName, Names}
 use Rattle.rules.specs.Findings.{paragraphRun}
 use Rattle.rules.proofs.Laws.LineOf.{lineOf-order}
-use Rattle.rules.proofs.Laws.NoLines.{knows-element}
+use Rattle.rules.proofs.Laws.NoLines.{knows-element, knows-next}
 use Rattle.rules.proofs.Laws.FirstOf.{element-holds, element-fails}
 use Rattle.rules.proofs.Laws.Elements.{paragraphLines-le}
 use Rattle.rules.proofs.Laws.Paragraphs.{paragraph-spanned}
@@ -22,16 +26,33 @@ returns c =
     let is = element-holds _ _ _ _ (sym (at-element .e .given .1) ∙ at-rule .find-rule .ensures) in
     (is, knows-element _ _ _ _ _ (at-rule .before .before .pre .known) _ _ is)
 
+-- what is known after its first line
+
+ends : (c : tie.Joined1) → let args = c .before .before .before .before .before .before .args in
+    c .if1 .ends ≡ false → NoLine (word ":end:") (args .text .now) (args .line .end) (args .scope .end)
+ends c z =
+    let pre = c .before .before .before .before .before .before .pre in
+    ⊎-elim (λ w. w .1 .ensures (sym (w .2) ∙ z)) (λ w. knows-next _ _ _ _ _ (pre .line) (pre .known) .ends (sym (w .1) ∙ z)) (c .if1 .came)
+
+names : (c : tie.Joined2) → let args = c .before .before .before .before .before .before .before .args in
+    Names (args .text .now) (args .line .end) (args .scope .end) (c .if2 .names)
+names c x z =
+    let pre = c .before .before .before .before .before .before .before .pre in
+    ⊎-elim
+    (λ w. w .1 .ensures x (sym (ap (λ m. hasName m x) (w .2)) ∙ z))
+    (λ w. knows-next _ _ _ _ _ (pre .line) (pre .known) .names x (sym (ap (λ m. hasName m x) (w .1)) ∙ z))
+    (c .if2 .came)
+
 paragraph-lines-requires : tie.Need-paragraph-lines-requires
 paragraph-lines-requires c κs =
-    let o = lineOf-order _ _ _ (c .before .before .before .before .before .before .pre .line) in
-    (o .4, o .5, record { ends = c .before .ends-after .ensures; names = c .names-after .ensures })
+    let o = lineOf-order _ _ _ (c .before .before .before .before .before .before .before .pre .line) in
+    (o .4, o .5, record { ends = ends (c .before); names = names c })
 
-add : tie.Need-add-t12
+add : tie.Need-add-t14
 unfolding paragraphRun
 add c =
     let at-lines = c .before .before in
-    let start = at-lines .before .before .before .before .before .before .before in
+    let start = at-lines .before .before .before .before .before .before .before .before in
     let s = start .args .text .now in
     let l = start .args .line in
     let e = start .args .scope .end in
@@ -41,7 +62,7 @@ add c =
 returns-2 : tie.Need-returns-2
 returns-2 c =
     let at-lines = c .before .before in
-    let at-told = at-lines .before .before .before in
+    let at-told = at-lines .before .before .before .before in
     let at-rule = at-told .before .before in
     let further = at-lines .paragraph-lines .ensures in (
       rw (element-fails _ _ _ (sym (at-told .enum-told .given .1) ∙ at-rule .find-rule .ensures))
@@ -57,6 +78,7 @@ element-at-spec =
     (λ c. search needs)
     returns
     (λ c. search needs)
+    (λ c κs. c .before .before .before .before .pre .line)
     (λ c κs. search needs)
     (λ c κs. search needs)
     paragraph-lines-requires

@@ -2,17 +2,20 @@
 -- The invariant: the further lines from `at` on, counted on from n, are those asked for, and what is known is true of the lines from `at` on.
 -- The measure is the bytes from `at` on.
 -- Assumes nothing.
-use mathlib.Core.Path.{_≡_, refl, sym, _∙_}
+use mathlib.Core.Path.{_≡_, refl, sym, ap, _∙_}
+use mathlib.Core.Bool.{false}
+use mathlib.Core.Logic.{⊎-elim}
 use Prim.Native.Nat.{_+_, _-_, _≤_, _<_}
 use native.Mathlib.Omega.{arith}
 use lib.ListN.{length}
 use borrow.Author.Needs.{needs}
+use Rattle.text.specs.Runs.{word}
 use Rattle.text.specs.Parts.{lineIn}
 use Rattle.text.proofs.Laws.LinesIn.{lineIn-some, lineIn-to}
-use Rattle.rules.specs.Known.{Knows}
+use Rattle.rules.specs.Known.{NoLine, hasName, Names, Knows}
 use Rattle.rules.specs.Findings.{LineOf, paragraphRun}
 use Rattle.rules.proofs.Laws.LineOf.{indent-run, after-end, lineOf, lineSpan-start, lineSpan-next}
-use Rattle.rules.proofs.Laws.NoLines.{knows-line}
+use Rattle.rules.proofs.Laws.NoLines.{knows-line, knows-next}
 use Rattle.rules.proofs.Laws.Paragraphs.{paragraph-none, paragraph-short, paragraph-newline, paragraph-plain}
 use Rattle.rules.proofs.Laws.Paragraphs.{paragraph-blank, paragraph-stop, paragraph-pass}
 use Rattle.rules.proofs.element.paragraph_lines.Statement.{statement}
@@ -94,11 +97,35 @@ returns-5 c =
       at-loop .loop .inv .2,
     )
 
+-- ---- what is known after it
+
 ends-after-requires : tie.Need-ends-after-requires Inv-loop μ-loop
-ends-after-requires c κs = let at-line = c .before .before .before .before .before in record { line = line at-line; known = known at-line }
+ends-after-requires c κs = let at-line = c .before .before .before .before .before .before in record { line = line at-line; known = known at-line }
 
 names-after-requires : tie.Need-names-after-requires Inv-loop μ-loop
-names-after-requires c κs = let at-line = c .before .before .before .before .before .before in record { line = line at-line; known = known at-line }
+names-after-requires c κs = let at-line = c .before .before .before .before .before .before .before in record { line = line at-line; known = known at-line }
+
+ends : (c : tie.Joined5 Inv-loop μ-loop) →
+    let at-line = c .before .before .before .before .before .before in
+    let args = at-line .before .before .before .before .before .before .before .before .before .before .args in
+    c .if5 .ends ≡ false → NoLine (word ":end:") (args .text .now) (at-line .line-at .result .end) (args .scope .end)
+ends c z =
+    let at-line = c .before .before .before .before .before .before in
+    ⊎-elim
+    (λ w. w .1 .ensures (sym (w .2) ∙ z))
+    (λ w. knows-next _ _ _ _ _ (line at-line) (known at-line) .ends (sym (w .1) ∙ z))
+    (c .if5 .came)
+
+names : (c : tie.Joined6 Inv-loop μ-loop) →
+    let at-line = c .before .before .before .before .before .before .before in
+    let args = at-line .before .before .before .before .before .before .before .before .before .before .args in
+    Names (args .text .now) (at-line .line-at .result .end) (args .scope .end) (c .if6 .names)
+names c x z =
+    let at-line = c .before .before .before .before .before .before .before in
+    ⊎-elim
+    (λ w. w .1 .ensures x (sym (ap (λ m. hasName m x) (w .2)) ∙ z))
+    (λ w. knows-next _ _ _ _ _ (line at-line) (known at-line) .names x (sym (ap (λ m. hasName m x) (w .1)) ∙ z))
+    (c .if6 .came)
 
 loop-less-2 : tie.Need-loop-less-2 Inv-loop μ-loop
 loop-less-2 c = omega (arith, next (c .before .before .before .before .before .before .before))
@@ -113,7 +140,7 @@ loop-again-2 c =
     let inv = at-loop .loop .inv in (
       next at-line .1,
       inv .1,
-      record { ends = at-ends .ends-after .ensures; names = c .names-after .ensures },
+      record { ends = ends at-ends; names = names c },
       rw (here at-line)
           at (paragraph-pass _ _ _ (line at-line) _ (at-rule .find-rule .ensures) (at-loop .loop .n) (at-test .if4 .left) (at-ends .before .enum-told2 .given .1))
           ∙ inv .3,
