@@ -11,7 +11,7 @@ const BOOK_LIMIT: f64 = 4.0;
 const PROSE_LIMIT: f64 = 3.0;
 
 const HOSTILE_SIZE: usize = 64 * 1024;
-const HOSTILE_LIMIT: Duration = Duration::from_secs(1);
+const HOSTILE_LIMIT: Duration = Duration::from_millis(100);
 
 const TRIES: usize = 5;
 
@@ -81,7 +81,7 @@ fn time_held(text: &Text) -> bool {
         text.name,
         text.bytes.len(),
         least.as_secs_f64(),
-        HOSTILE_LIMIT.as_secs()
+        HOSTILE_LIMIT.as_secs_f64()
     );
     held
 }
