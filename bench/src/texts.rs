@@ -68,6 +68,14 @@ pub fn hostile(size: usize) -> [Text; 14] {
     .map(|(name, bytes)| Text { name, bytes })
 }
 
+/// A block opener and closers of another name only, each of which a search compares.
+pub fn one_opener(size: usize) -> Text {
+    Text {
+        name: "one opener",
+        bytes: filled("#+begin_a\n", "#+end_b\n", size),
+    }
+}
+
 /// The first lines, then the others again and again, cut to size.
 fn filled(first: &str, again: &str, size: usize) -> Vec<u8> {
     let bytes = first.bytes().chain(again.bytes().cycle());
