@@ -2,9 +2,10 @@
  * comaltzex.h - a proved reader of Org order books.
  *
  * comaltzex_read lists everything in a text as a flat table of records;
- * comaltzex_lookup finds one property of one heading. All functions are plain:
- * they allocate nothing and keep no state, so threads may call them at once
- * (each with a table of its own).
+ * comaltzex_lookup finds one property of one heading; comaltzex_find_closer
+ * finds the line that closes a block or drawer. All functions are plain: they
+ * allocate nothing and keep no state, so threads may call them at once (each
+ * with a table of its own).
  *
  * Stack: a call needs up to 96 KB of stack.
  *
@@ -26,10 +27,11 @@ extern "C" {
 
 /*
  * The version of this interface. It changes when an answer, the record's width
- * or a function's signature does. If comaltzex_version() is another number, the
- * library is not the one that this header declares.
+ * or a function's signature does, and when a function is added. If
+ * comaltzex_version() is another number, the library is not the one that this
+ * header declares.
  */
-#define COMALTZEX_VERSION 2
+#define COMALTZEX_VERSION 3
 
 #define COMALTZEX_TEXT_LIMIT 65536 /* the longest text, in bytes */
 #define COMALTZEX_DEPTH_LIMIT 32   /* the deepest drawer or greater block */
@@ -95,6 +97,13 @@ typedef struct comaltzex_part {
     size_t end;
 } comaltzex_part;
 
+typedef struct comaltzex_closer {
+    uint32_t found;  /* 0 or 1 */
+    size_t start;    /* the closer's line, its byte 10 included */
+    size_t end;
+    size_t compared; /* lines */
+} comaltzex_closer;
+
 /*
  * Reads a text into a table of table_len numbers, with room for
  * table_len / COMALTZEX_RECORD_SIZE records (rounded down). The first of these
@@ -129,6 +138,34 @@ comaltzex_reading comaltzex_read(const uint8_t *text, size_t text_len,
  */
 comaltzex_part comaltzex_lookup(const uint8_t *text, size_t text_len, size_t at,
                                 const uint8_t *key, size_t key_len);
+
+/*
+ * Finds the closer of the block or drawer whose opener's line starts at byte
+ * `at`, in a container (a section, block or drawer) that ends at byte `end`. The
+ * text is seen up to `end` only: a line that goes on past it is cut there.
+ *
+ *   opener                                          closer
+ *   `#+begin_NAME`, NAME without blank bytes;       `#+end_NAME`
+ *     parameters may follow after a blank byte
+ *   `:NAME:`, NAME of letters, digits, '-' and '_'  `:END:`
+ *
+ * A name is not empty. `:END:` opens nothing; `:PROPERTIES:` is like any other
+ * name. Letters are the ASCII ones, and their case counts for nothing. Bytes 32
+ * and 9 may stand before both, blank bytes (32, 9 and 13) after both.
+ *
+ * The first closer after the opener's line counts: found is 1, and its line is
+ * text[start] up to, not including, text[end]. If there is none, found, start
+ * and end are 0.
+ *
+ * compared is how many lines the search compared further: those after the
+ * opener's whose first byte that is not blank is the closer's first ('#' or
+ * ':'), up to and with the closer, else to the container's end.
+ *
+ * All four numbers are 0 if that line is no opener, if no line starts at `at`
+ * before `end`, or if `end` is over text_len. The text may be of any length.
+ */
+comaltzex_closer comaltzex_find_closer(const uint8_t *text, size_t text_len, size_t at,
+                                       size_t end);
 
 /* The library's own COMALTZEX_RECORD_SIZE. */
 size_t comaltzex_record_size(void);

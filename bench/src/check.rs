@@ -3,7 +3,7 @@
 
 use std::time::Duration;
 
-use crate::contest::{self, best, contest, Effort};
+use crate::contest::{self, best, contest, Contender, Effort};
 use crate::texts::{self, Text};
 
 const BOOK_SIZE: usize = 60 * 1024;
@@ -11,7 +11,12 @@ const BOOK_LIMIT: f64 = 4.0;
 const PROSE_LIMIT: f64 = 3.0;
 
 const HOSTILE_SIZE: usize = 64 * 1024;
-const HOSTILE_LIMIT: Duration = Duration::from_secs(1);
+const HOSTILE_LIMIT: f64 = 0.1; // seconds
+
+/// A linear search has about the same find/count in both texts, a quadratic one 16 times as
+/// much in the long one.
+const SEARCH_SIZES: [usize; 2] = [4 * 1024, 64 * 1024];
+const SEARCH_LIMIT: f64 = 2.0;
 
 const TRIES: usize = 5;
 
@@ -33,18 +38,14 @@ pub fn passes() -> bool {
         ratio_held(&prose, PROSE_LIMIT),
     ];
     held.extend(texts::hostile(HOSTILE_SIZE).iter().map(time_held));
+    held.push(growth_held(SEARCH_SIZES.map(texts::one_opener)));
     held.iter().all(|&held| held)
 }
 
 /// Is a reading at most `limit` times as long as the count, in one of the tries?
 fn ratio_held(text: &Text, limit: f64) -> bool {
-    let mut least = f64::INFINITY;
-    for _ in 0..TRIES {
-        least = least.min(ratio(&text.bytes));
-        if least <= limit {
-            break;
-        }
-    }
+    let mut table = contest::fitting_table(&text.bytes);
+    let least = least(limit, || ratio(contest::comaltzex, text, &mut table));
     let held = least <= limit;
     println!(
         "{}: {}, {} bytes: read/count {least:.2}, limit {limit}",
@@ -55,33 +56,52 @@ fn ratio_held(text: &Text, limit: f64) -> bool {
     held
 }
 
-fn ratio(text: &[u8]) -> f64 {
-    let mut table = contest::fitting_table(text);
-    let contenders = [contest::comaltzex, contest::count_one_at_a_time];
-    let [read, count] = contest(text, &mut table, contenders, &EFFORT);
-    best(&read) / best(&count)
+/// Is a search at most `SEARCH_LIMIT` times as long beside the count in the long text as in the
+/// short one, in one of the tries?
+fn growth_held([short, long]: [Text; 2]) -> bool {
+    let ratio = |text| ratio(contest::find_closer, text, &mut []);
+    let least = least(SEARCH_LIMIT, || ratio(&long) / ratio(&short));
+    let held = least <= SEARCH_LIMIT;
+    println!(
+        "{}: {}, {} bytes: find/count {least:.2} times that of {} bytes, limit {SEARCH_LIMIT}",
+        verdict(held),
+        long.name,
+        long.bytes.len(),
+        short.bytes.len()
+    );
+    held
 }
 
-/// Does a reading take less than the limit, in one of the tries?
-fn time_held(text: &Text) -> bool {
-    let mut table = contest::fitting_table(&text.bytes);
-    let mut least = Duration::MAX;
+/// The least of several measurements; the first that is within the limit is the last.
+fn least(limit: f64, mut measure: impl FnMut() -> f64) -> f64 {
+    let mut least = f64::INFINITY;
     for _ in 0..TRIES {
-        least = least.min(contest::time(|| {
-            contest::comaltzex(&text.bytes, &mut table);
-        }));
-        if least < HOSTILE_LIMIT {
+        least = least.min(measure());
+        if least <= limit {
             break;
         }
     }
-    let held = least < HOSTILE_LIMIT;
+    least
+}
+
+/// How many times as long as the count a contender takes.
+fn ratio(contender: Contender, text: &Text, table: &mut [u32]) -> f64 {
+    let contenders = [contender, contest::count_one_at_a_time];
+    let [taken, count] = contest(&text.bytes, table, contenders, &EFFORT);
+    best(&taken) / best(&count)
+}
+
+/// Does a reading take at most `HOSTILE_LIMIT`, in one of the tries?
+fn time_held(text: &Text) -> bool {
+    let mut table = contest::fitting_table(&text.bytes);
+    let mut read = || contest::comaltzex(&text.bytes, &mut table);
+    let least = least(HOSTILE_LIMIT, || contest::time(&mut read).as_secs_f64());
+    let held = least <= HOSTILE_LIMIT;
     println!(
-        "{}: {}, {} bytes: {:.3} s, limit {} s",
+        "{}: {}, {} bytes: {least:.3} s, limit {HOSTILE_LIMIT} s",
         verdict(held),
         text.name,
-        text.bytes.len(),
-        least.as_secs_f64(),
-        HOSTILE_LIMIT.as_secs()
+        text.bytes.len()
     );
     held
 }

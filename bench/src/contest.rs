@@ -13,6 +13,11 @@ pub fn comaltzex(text: &[u8], table: &mut [u32]) {
     black_box(records);
 }
 
+/// The closer of the text's first line, up to the text's end.
+pub fn find_closer(text: &[u8], _: &mut [u32]) {
+    black_box(comaltzex::find_closer(black_box(text), 0, text.len()));
+}
+
 pub fn plain_reader(text: &[u8], table: &mut [u32]) {
     let answer = plain_reader::answer(black_box(text), table);
     black_box((answer, table));

@@ -23,6 +23,7 @@ round's own. The machine is noisy: only ratios within one run count.
   count   byte 10 counted one byte at a time
   vector  byte 10 counted by vector instructions
   plain   the independent plain reader
+  find    comaltzex_find_closer, from the first line to the end
 ";
 
 pub fn print() {
@@ -42,6 +43,13 @@ pub fn print() {
         for text in texts::hostile(size) {
             print_row(&text);
         }
+    }
+    println!(
+        "\n{:<16}{:>7}{:>10}{:>9}{:>8}{:>12}",
+        "search", "bytes", "compared", "find", "count", "find/count"
+    );
+    for size in SIZES {
+        print_search(&texts::one_opener(size));
     }
 }
 
@@ -68,6 +76,21 @@ fn print_row(text: &Text) {
     );
 }
 
+fn print_search(text: &Text) {
+    let compared = agreed_search(text);
+    let contenders = [contest::find_closer, contest::count_one_at_a_time];
+    let [find, count] = contest(&text.bytes, &mut [], contenders, &EFFORT);
+    println!(
+        "{:<16}{:>7}{:>10}{:>9.2}{:>8.2}{:>12.2}",
+        text.name,
+        text.bytes.len(),
+        compared,
+        median(&find),
+        median(&count),
+        median_ratio(&find, &count)
+    );
+}
+
 /// The text's table, on which both readers must agree: a wrong reading has no speed.
 fn agreed_table(text: &Text) -> Vec<u32> {
     let ours = contest::fitting_table(&text.bytes);
@@ -76,4 +99,14 @@ fn agreed_table(text: &Text) -> Vec<u32> {
     let agreed = answer == (0, ours.len() / RECORD_SIZE) && ours == theirs;
     assert!(agreed, "the readers differ on the text `{}`", text.name);
     ours
+}
+
+/// How many lines a search compares that finds no closer; both readers must agree on it.
+fn agreed_search(text: &Text) -> usize {
+    let end = text.bytes.len();
+    let ours = comaltzex::find_closer(&text.bytes, 0, end);
+    let theirs = plain_reader::closer_search(&text.bytes, 0, end);
+    let agreed = ours.closer.is_none() && theirs == (0, 0, 0, ours.compared);
+    assert!(agreed, "the searches differ on the text `{}`", text.name);
+    ours.compared
 }

@@ -37,19 +37,63 @@ pub fn shipped() -> Text {
     }
 }
 
-/// Texts made to be slow: each line opens something, and nothing is ever closed,
-/// so that a search for its closer runs to the text's end.
-pub fn hostile(size: usize) -> [Text; 4] {
+/// Texts made to be slow: many openers that nothing closes, so that a search for the
+/// closer of each runs to the text's end; and what else a shortcut for that may trip on.
+pub fn hostile(size: usize) -> [Text; 14] {
+    let again = |lines| filled("", lines, size);
+    let other_names = || numbered("#+begin_%\n", size);
+    let spaced_blocks = "#+begin_a\n\n".repeat(size * 3400 / 65_536);
     [
-        ("open blocks", "#+begin_x\n"),
-        ("open drawers", ":a:\n"),
-        ("other closers", "#+begin_a\n#+end_b\n"),
-        ("drawers, blanks", ":a:\n\n"),
+        ("open blocks", again("#+begin_x\n")),
+        ("open drawers", again(":a:\n")),
+        ("other closers", again("#+begin_a\n#+end_b\n")),
+        ("drawers, blanks", again(":a:\n\n")),
+        ("blocks, blanks", filled(&spaced_blocks, "\n", size)),
+        ("text, blocks", again("x\n#+begin_a\n\n")),
+        ("text, drawers", again("x\n:a:\n\n")),
+        ("other names", other_names()),
+        ("other pairs", numbered("#+begin_a%\n#+end_b%\n", size)),
+        ("longer closers", again("#+begin_i\n#+end_iz\n")),
+        (
+            "closed above",
+            filled("#+begin_a\n#+end_a\n", "#+begin_a\n", size),
+        ),
+        ("a closer last", ended(other_names(), "#+end_z\n")),
+        (
+            "names in turn",
+            ended(again("#+begin_a\n#+begin_b\n"), "#+end_z\n"),
+        ),
+        ("an end last", ended(again(":x\n"), ":END:\n")),
     ]
-    .map(|(name, lines)| Text {
-        name,
-        bytes: lines.bytes().cycle().take(size).collect(),
-    })
+    .map(|(name, bytes)| Text { name, bytes })
+}
+
+/// A block opener and closers of another name only, each of which a search compares.
+pub fn one_opener(size: usize) -> Text {
+    Text {
+        name: "one opener",
+        bytes: filled("#+begin_a\n", "#+end_b\n", size),
+    }
+}
+
+/// The first lines, then the others again and again, cut to size.
+fn filled(first: &str, again: &str, size: usize) -> Vec<u8> {
+    let bytes = first.bytes().chain(again.bytes().cycle());
+    bytes.take(size).collect()
+}
+
+/// The lines again and again with another number for each `%`, cut to size.
+fn numbered(lines: &str, size: usize) -> Vec<u8> {
+    let numbered = |number| lines.replace('%', &format!("{number:04}")).into_bytes();
+    (0..).flat_map(numbered).take(size).collect()
+}
+
+/// Whole lines of the text and that last line, as long as they fit its length.
+fn ended(mut text: Vec<u8>, last: &str) -> Vec<u8> {
+    text.truncate(text.len() - last.len());
+    while text.pop_if(|byte| *byte != b'\n').is_some() {}
+    text.extend(last.bytes());
+    text
 }
 
 /// Whole orders as long as they fit, so the book ends where a heading line would start.
@@ -199,8 +243,31 @@ mod tests {
         for size in [4096, 65_536] {
             assert!(book(size).len() <= size && book(size).len() > size - 1500);
             assert_eq!(prose(size).len(), size);
-            assert!(hostile(size).iter().all(|text| text.bytes.len() == size));
+            let lengths = hostile(size).map(|text| text.bytes.len());
+            assert!(lengths
+                .iter()
+                .all(|&length| length <= size && length > size - 13));
         }
+    }
+
+    #[test]
+    fn a_last_line_stands_after_whole_lines() {
+        assert_eq!(ended(b":x\n".repeat(4), ":END:\n"), b":x\n:x\n:END:\n");
+        assert_eq!(ended(b":x\n:x\n:x\n:".to_vec(), ":END:\n"), b":x\n:END:\n");
+    }
+
+    #[test]
+    fn numbers_differ() {
+        assert_eq!(numbered("a%b%\n", 25), b"a0000b0000\na0001b0001\na00");
+    }
+
+    #[test]
+    fn blank_lines_stand_below_the_spaced_blocks() {
+        let texts = hostile(65_536);
+        let text = texts.iter().find(|text| text.name == "blocks, blanks");
+        let (blocks, blanks) = text.unwrap().bytes.split_at(3400 * 11);
+        assert_eq!(blocks, b"#+begin_a\n\n".repeat(3400));
+        assert!(blanks.iter().all(|&byte| byte == b'\n'));
     }
 
     #[test]

@@ -1,4 +1,7 @@
-/* The C interface: header and library of one version, document 01's samples, each refusal. */
+/*
+ * The C interface: header and library of one version, document 01's samples, each refusal, and
+ * document 02's search for a closer.
+ */
 #include "comaltzex.h"
 
 #include <stdio.h>
@@ -80,6 +83,16 @@ static void check_lookup(const char *what, const char *text, size_t text_len, si
     check(what, part.number, number);
     check(what, part.start, start);
     check(what, part.end, end);
+}
+
+static void check_closer(const char *what, const char *text, size_t text_len, size_t at,
+                         size_t end, comaltzex_closer wanted)
+{
+    comaltzex_closer seen = comaltzex_find_closer((const uint8_t *)text, text_len, at, end);
+    check(what, seen.found, wanted.found);
+    check(what, seen.start, wanted.start);
+    check(what, seen.end, wanted.end);
+    check(what, seen.compared, wanted.compared);
 }
 
 static void one_version(void)
@@ -170,6 +183,36 @@ static void lookup_refusals(void)
     check_lookup("other key", FIRST, 35, 0, "FUEL", COMALTZEX_NO_KEY, 0, 0);
 }
 
+static void closers(void)
+{
+    static const char text[] = "x\n #+begin_a\n\r#+end_a\n:END:\n#+end_ab\n #+End_A\r\n"
+                               ":b:\n#+end_b\n: c\n";
+    const comaltzex_closer none = {0, 0, 0, 0};
+    const size_t length = sizeof(text) - 1;
+    check_closer("closer", text, length, 2, length, (comaltzex_closer){1, 37, 47, 3});
+    check_closer("closer cut by the end", text, length, 2, 45, (comaltzex_closer){1, 37, 45, 3});
+    check_closer("closer past the end", text, length, 2, 37, (comaltzex_closer){0, 0, 0, 2});
+    check_closer("open drawer", text, length, 47, length, (comaltzex_closer){0, 0, 0, 1});
+    check_closer("nothing compared", text, length, 47, 59, none);
+    check_closer("no opener", text, length, 0, length, none);
+    check_closer("an end line is no opener", text, length, 22, length, none);
+    check_closer("in mid-line", text, length, 3, length, none);
+    check_closer("at the end", text, length, 2, 2, none);
+    check_closer("end past the text", text, length, 2, length + 1, none);
+    check_closer("both past the text", text, length, (size_t)-1, (size_t)-1, none);
+    check_closer("empty text", "", 0, 0, 0, none);
+}
+
+static void closer_in_a_long_text(void)
+{
+    const size_t start = sizeof(book) - 6;
+    memset(book, '\n', sizeof(book));
+    memcpy(book, ":a:", 3);
+    memcpy(book + start, ":end:", 5);
+    check_closer("closer in 65,537 bytes", book, sizeof(book), 0, sizeof(book),
+                 (comaltzex_closer){1, start, sizeof(book), 1});
+}
+
 static void text_limit(void)
 {
     memset(book, 'x', sizeof(book));
@@ -208,6 +251,8 @@ int main(void)
     third_sample();
     empty_text();
     lookup_refusals();
+    closers();
+    closer_in_a_long_text();
     text_limit();
     depth_limit();
     printf("c: %u checks passed\n", checks);

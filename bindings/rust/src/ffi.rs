@@ -3,7 +3,7 @@
 use crate::RECORD_SIZE;
 
 /// `COMALTZEX_VERSION` of the header.
-const VERSION: u32 = 2;
+const VERSION: u32 = 3;
 
 /// The numbers of an answer, as in `comaltzex.h`.
 pub(crate) mod number {
@@ -32,6 +32,15 @@ pub(crate) struct Part {
     pub(crate) end: usize,
 }
 
+/// `comaltzex_closer` of the header.
+#[repr(C)]
+pub(crate) struct Closer {
+    pub(crate) found: u32,
+    pub(crate) start: usize,
+    pub(crate) end: usize,
+    pub(crate) compared: usize,
+}
+
 extern "C" {
     fn comaltzex_read(
         text: *const u8,
@@ -47,6 +56,8 @@ extern "C" {
         key: *const u8,
         key_len: usize,
     ) -> Part;
+
+    fn comaltzex_find_closer(text: *const u8, text_len: usize, at: usize, end: usize) -> Closer;
 
     fn comaltzex_record_size() -> usize;
 
@@ -68,6 +79,11 @@ pub(crate) fn read(text: &[u8], table: &mut [u32]) -> Reading {
 pub(crate) fn lookup(text: &[u8], at: usize, key: &[u8]) -> Part {
     // SAFETY: as in `read`; the library writes nothing, and `at` may be any number.
     unsafe { comaltzex_lookup(text.as_ptr(), text.len(), at, key.as_ptr(), key.len()) }
+}
+
+pub(crate) fn find_closer(text: &[u8], at: usize, end: usize) -> Closer {
+    // SAFETY: as in `lookup`; `end` too may be any number.
+    unsafe { comaltzex_find_closer(text.as_ptr(), text.len(), at, end) }
 }
 
 fn record_size() -> usize {

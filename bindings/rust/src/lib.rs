@@ -31,10 +31,12 @@
 //! ```
 //!
 //! [`read`] does the same into a table that the caller lends, and allocates
-//! nothing. A call needs up to 96 KB of stack.
+//! nothing. [`find_closer`] finds the line that closes one block or drawer. A call
+//! needs up to 96 KB of stack.
 
 #![deny(unsafe_code, unsafe_op_in_unsafe_fn, missing_docs)]
 
+mod closer;
 #[allow(unsafe_code)]
 mod ffi;
 mod lookup;
@@ -42,6 +44,7 @@ mod record;
 mod refusal;
 mod table;
 
+pub use closer::{find_closer, CloserSearch};
 pub use lookup::{lookup, property};
 pub use record::{Kind, Record, Records};
 pub use refusal::{LookupRefusal, Refusal};

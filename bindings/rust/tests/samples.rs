@@ -1,8 +1,10 @@
-//! Document 01's samples and limits through the safe interface.
+//! Document 01's samples and limits, and document 02's, through the safe interface.
+
+use std::ops::Range;
 
 use comaltzex::{
-    lookup, property, read, Kind, LookupRefusal, Record, Refusal, Table, DEPTH_LIMIT, KEY_LIMIT,
-    RECORD_SIZE, TEXT_LIMIT,
+    find_closer, lookup, property, read, CloserSearch, Kind, LookupRefusal, Record, Refusal, Table,
+    DEPTH_LIMIT, KEY_LIMIT, RECORD_SIZE, TEXT_LIMIT,
 };
 
 const FIRST: &[u8] = b"* A\n:PROPERTIES:\n:VIN: 7\n:END:\n\nhi\n";
@@ -235,6 +237,85 @@ fn bad_keys() {
     for key in keys {
         assert_eq!(property(FIRST, 0, key), Err(LookupRefusal::BadKey));
     }
+}
+
+/// Checks a search up to the text's end: the closer's line, if there is one, and
+/// how many lines are compared.
+#[track_caller]
+fn check_search(text: &[u8], at: usize, closer: Option<Range<usize>>, compared: usize) {
+    let wanted = CloserSearch { closer, compared };
+    assert_eq!(find_closer(text, at, text.len()), wanted);
+}
+
+#[test]
+fn closer_samples() {
+    check_search(b"#+begin_a\nx\n#+end_a\n", 0, Some(12..20), 1);
+    check_search(b"#+begin_a\nx\n# c\n:END:\n", 0, None, 1);
+    check_search(b"#+begin_a\n  # x\n\n\t#+end_a\n", 0, Some(17..26), 2);
+    check_search(b"#+begin_a\n\r#+end_a\n#+end_a\n", 0, Some(19..27), 2);
+    let twice = b"#+begin_a\n#+begin_a\n#+end_a\n#+end_a\n";
+    check_search(twice, 0, Some(20..28), 2);
+    check_search(b":a:\n:a:\n:a:\n:a:\n", 0, None, 3);
+    check_search(b":a:\n:a:\n:a:\n:a:\n", 12, None, 0);
+    check_search(b"#+begin_d\n:END:\n#+end_d", 0, Some(16..23), 1);
+    check_search(b"#+begin_a\n#+end_a \r\n", 0, Some(10..20), 1);
+    check_search(b"#+begin_a\n#+end_a x\n", 0, None, 1);
+    let keywords = b"#+begin_a\n#+k: v\n#\n##\n#+end_a\n";
+    check_search(keywords, 0, Some(22..30), 4);
+}
+
+#[test]
+fn letters_of_closers_match_in_either_case() {
+    check_search(b"#+BEGIN_Src c\n#+end_sRC\n", 0, Some(14..24), 1);
+    check_search(b" :Log_1-b:\r\n#\n:x\n\t:End:\t\n", 0, Some(17..25), 2);
+}
+
+#[test]
+fn closer_of_a_property_drawer() {
+    check_search(FIRST, 4, Some(25..31), 2);
+}
+
+#[test]
+fn closers_up_to_an_end() {
+    let text = b":a:\n:x\n:end:\n";
+    let open = |compared| CloserSearch {
+        closer: None,
+        compared,
+    };
+    let cut = CloserSearch {
+        closer: Some(7..12),
+        compared: 2,
+    };
+    assert_eq!(find_closer(text, 0, 12), cut);
+    assert_eq!(find_closer(text, 0, 11), open(2));
+    assert_eq!(find_closer(text, 0, 7), open(1));
+    assert_eq!(find_closer(text, 0, 4), open(0));
+}
+
+#[test]
+fn no_opener_no_closer() {
+    let text = b" :a:\n:end:\nx\n#+begin_\n#+end_\n:end:\n";
+    let none = CloserSearch {
+        closer: None,
+        compared: 0,
+    };
+    let past = text.len() + 1;
+    // the middle of a line; `:end:`; text; a block without a name
+    for at in [1, 5, 11, 13, text.len(), past, usize::MAX] {
+        assert_eq!(find_closer(text, at, text.len()), none, "at {at}");
+    }
+    for end in [0, past, usize::MAX] {
+        assert_eq!(find_closer(text, 0, end), none, "end {end}");
+    }
+    assert_eq!(find_closer(b"", 0, 0), none);
+}
+
+#[test]
+fn closers_have_no_text_limit() {
+    let mut text = b"#+begin_a\n".repeat(TEXT_LIMIT);
+    let start = text.len();
+    text.extend(b"#+end_a\n");
+    check_search(&text, 0, Some(start..text.len()), TEXT_LIMIT);
 }
 
 #[test]

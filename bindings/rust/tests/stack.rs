@@ -1,6 +1,6 @@
 //! A stack of 96 KB is enough for every text: the deepest nesting, more of it than is read, and texts of the greatest length.
 
-use comaltzex::{lookup, read, Refusal, DEPTH_LIMIT, RECORD_SIZE, TEXT_LIMIT};
+use comaltzex::{find_closer, lookup, read, Refusal, DEPTH_LIMIT, RECORD_SIZE, TEXT_LIMIT};
 use std::thread;
 
 const STACK: usize = 96 * 1024;
@@ -77,4 +77,16 @@ fn long_lookup() {
         .unwrap()
         .join()
         .unwrap());
+}
+
+#[test]
+fn long_search() {
+    let searching = || find_closer(&filled(":a:\n"), 0, TEXT_LIMIT).compared;
+    let compared = thread::Builder::new()
+        .stack_size(STACK)
+        .spawn(searching)
+        .unwrap()
+        .join()
+        .unwrap();
+    assert_eq!(compared, 16383);
 }

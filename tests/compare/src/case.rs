@@ -6,7 +6,7 @@ use std::path::Path;
 use plain_reader::NUMBERS_OF_A_RECORD;
 
 use crate::escape::unescape;
-use crate::subject::{LookupAnswer, ReadAnswer};
+use crate::subject::{CloserAnswer, LookupAnswer, ReadAnswer};
 
 /// The numbers of a record.
 pub type Numbers = [u32; NUMBERS_OF_A_RECORD];
@@ -46,6 +46,11 @@ pub enum Expectation {
         key: Vec<u8>,
         answer: LookupAnswer,
         value: Option<Vec<u8>>,
+    },
+    Closer {
+        at: usize,
+        end: usize,
+        answer: CloserAnswer,
     },
 }
 
@@ -207,6 +212,21 @@ fn expectation(word: &str, rest: &str) -> Result<Expectation, String> {
             }
         }
         "lookup" => lookup_expectation(rest)?,
+        "closer" => {
+            let (call, answer) = rest.split_once(" -> ").ok_or("closer AT END -> ANSWER")?;
+            let [at, end] = words(call)?;
+            let [found, closer_start, closer_end, compared] = words(answer)?;
+            Expectation::Closer {
+                at: number(at)?,
+                end: number(end)?,
+                answer: (
+                    number(found)?,
+                    number(closer_start)?,
+                    number(closer_end)?,
+                    number(compared)?,
+                ),
+            }
+        }
         _ => return Err(format!("unknown word {word:?}")),
     })
 }

@@ -5,24 +5,27 @@ use plain_reader::{Reading, Record, NUMBERS_OF_A_RECORD};
 use crate::escape::escape;
 use crate::proper::check_proper;
 use crate::random::Random;
+use crate::searches::{check_searches, Met};
 use crate::subject::{fresh_table, LIBRARY, PLAIN_READER};
 use crate::words::{BAD_KEYS, KEYS};
 
 /// Numbers past the lent table, which no call may touch.
 const GUARD: usize = 9;
 
-/// Texts up to this length are looked up at every byte.
-const SMALL: usize = 400;
+/// Texts up to this length are looked up at every byte, and closers searched from every line.
+pub const SMALL: usize = 400;
 
 /// The kind of a node property.
 const NODE_PROPERTY: u32 = 6;
 
-/// How many answers of each number, and how many records of each kind, the plain reader gave.
+/// How many answers of each number and records of each kind the plain reader gave, and how many of
+/// its searches for closers met what.
 #[derive(Default)]
 pub struct Tally {
     pub readings: [usize; 4],
     pub lookups: [usize; 8],
     pub kinds: [usize; 17],
+    pub searches: Met,
 }
 
 /// Compares the answers on `text`; the first difference is told in words.
@@ -40,7 +43,8 @@ pub fn check(text: &[u8], random: &mut Random, tally: &mut Tally) -> Result<(), 
     }
     let keys = property_keys(text, records);
     check_lookups_at_headings(text, &keys, random, tally)?;
-    check_lookups_elsewhere(text, random, tally)
+    check_lookups_elsewhere(text, random, tally)?;
+    check_searches(text, records, random, &mut tally.searches)
 }
 
 /// The table; none of a refused reading.

@@ -8,6 +8,7 @@ pub mod library;
 pub mod proper;
 pub mod random;
 pub mod run;
+pub mod searches;
 pub mod subject;
 pub mod texts;
 pub mod words;

@@ -13,6 +13,14 @@ struct LookupAnswer {
     end: usize,
 }
 
+#[repr(C)]
+struct FindCloserAnswer {
+    found: u32,
+    start: usize,
+    end: usize,
+    compared: usize,
+}
+
 #[link(name = "comaltzex", kind = "static")]
 extern "C" {
     /// `room` is how many numbers the table holds.
@@ -25,6 +33,13 @@ extern "C" {
         key: *const u8,
         key_len: usize,
     ) -> LookupAnswer;
+
+    fn comaltzex_find_closer(
+        text: *const u8,
+        len: usize,
+        at: usize,
+        end: usize,
+    ) -> FindCloserAnswer;
 }
 
 /// Reads `text` into `table`; gives the answer's number and count.
@@ -41,4 +56,12 @@ pub fn lookup(text: &[u8], at: usize, key: &[u8]) -> (u32, usize, usize) {
     let answer =
         unsafe { comaltzex_lookup(text.as_ptr(), text.len(), at, key.as_ptr(), key.len()) };
     (answer.number, answer.start, answer.end)
+}
+
+/// Finds the closer of the opener at byte `at` before byte `end`; gives whether it is found, its
+/// line's two ends and how many lines were compared.
+pub fn find_closer(text: &[u8], at: usize, end: usize) -> (u32, usize, usize, usize) {
+    // SAFETY: the pointer comes with the length of the slice it belongs to.
+    let answer = unsafe { comaltzex_find_closer(text.as_ptr(), text.len(), at, end) };
+    (answer.found, answer.start, answer.end, answer.compared)
 }

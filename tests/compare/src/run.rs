@@ -54,6 +54,10 @@ impl Run<'_> {
                 answer,
                 value,
             } => self.check_lookup(*at, key, *answer, value.as_deref()),
+            Expectation::Closer { at, end, answer } => {
+                let seen = (self.subject.find_closer)(self.text, *at, *end);
+                same(&format!("closer {at} {end}"), answer, &seen)
+            }
         }
     }
 

@@ -1,4 +1,4 @@
-//! What is tested: a reading call and a lookup.
+//! What is tested: a reading call, a lookup and a search for a closer.
 
 use crate::library;
 
@@ -8,23 +8,30 @@ pub type ReadAnswer = (u32, usize);
 /// The answer of a lookup: its number and the two ends of its part.
 pub type LookupAnswer = (u32, usize, usize);
 
+/// The answer of a search for a closer: is it found (1, else 0), the two ends of its line, and how
+/// many lines were compared.
+pub type CloserAnswer = (u32, usize, usize, usize);
+
 #[derive(Clone, Copy)]
 pub struct Subject {
     pub name: &'static str,
     pub read: fn(&[u8], &mut [u32]) -> ReadAnswer,
     pub lookup: fn(&[u8], usize, &[u8]) -> LookupAnswer,
+    pub find_closer: fn(&[u8], usize, usize) -> CloserAnswer,
 }
 
 pub const PLAIN_READER: Subject = Subject {
     name: "plain reader",
     read: plain_reader::answer,
     lookup: plain_reader::lookup,
+    find_closer: plain_reader::closer_search,
 };
 
 pub const LIBRARY: Subject = Subject {
     name: "library",
     read: library::read,
     lookup: library::lookup,
+    find_closer: library::find_closer,
 };
 
 /// A table as it is before a call: no two neighbouring numbers are equal, and none is one that a

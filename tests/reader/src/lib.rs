@@ -10,14 +10,17 @@
 //! | "What starts at a line" | `rules` |
 //! | "A record", "Headings and sections first"; order 7 | `reading` |
 //! | "Numbers of an answer" | `answer`, `lookup` |
+//! | order 3 | `closer` |
 
 mod answer;
+mod closer;
 mod line;
 mod lookup;
 mod reading;
 mod rules;
 
 pub use answer::answer;
+pub use closer::closer_search;
 pub use lookup::lookup;
 pub use reading::{read, Reading, Record};
 

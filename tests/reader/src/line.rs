@@ -108,6 +108,12 @@ impl Line<'_> {
         self.body.is_empty()
     }
 
+    /// The first byte that is not 32, 9 or 13; a body may start with byte 13.
+    pub fn first_non_blank_byte(&self) -> Option<u8> {
+        let mut bytes = self.body.iter().copied();
+        bytes.find(|byte| !is_blank_byte(*byte))
+    }
+
     /// "It is a heading wherever it stands, inside an open block too."
     pub fn is_heading(&self) -> bool {
         self.stars > 0

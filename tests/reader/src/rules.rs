@@ -134,7 +134,11 @@ pub fn node_property<'t>(line: &Line<'t>) -> Option<NodeProperty<'t>> {
 
 /// The first line from `from` on, before `end`, whose body is `:END:`.
 fn first_end_line(lines: &[Line], from: usize, end: usize) -> Option<usize> {
-    (from..end).find(|index| same_letters(lines[*index].body, b":END:"))
+    (from..end).find(|index| is_end_line(&lines[*index]))
+}
+
+pub fn is_end_line(line: &Line) -> bool {
+    same_letters(line.body, b":END:")
 }
 
 /// Rule 3: "body `#+begin_NAME`, alone or with blank bytes and parameters. [..] It closes at the
@@ -153,7 +157,7 @@ fn block(lines: &[Line], at: usize, end: usize) -> Option<Element> {
 }
 
 /// Rule 3: "NAME is one or more non-blank bytes."
-fn block_name<'t>(line: &Line<'t>) -> Option<&'t [u8]> {
+pub fn block_name<'t>(line: &Line<'t>) -> Option<&'t [u8]> {
     let opener = b"#+begin_";
     if !starts_with_letters(line.body, opener) {
         return None;
@@ -162,7 +166,7 @@ fn block_name<'t>(line: &Line<'t>) -> Option<&'t [u8]> {
     (!name.is_empty()).then_some(name)
 }
 
-fn is_block_closer(line: &Line, name: &[u8]) -> bool {
+pub fn is_block_closer(line: &Line, name: &[u8]) -> bool {
     let closer = b"#+end_";
     starts_with_letters(line.body, closer) && same_letters(&line.body[closer.len()..], name)
 }
@@ -202,7 +206,7 @@ fn drawer_closer(lines: &[Line], at: usize, end: usize) -> Option<usize> {
 }
 
 /// Rule 4: "body `:NAME:`, NAME one or more letters, digits, `-`, `_`, not `END`".
-fn is_drawer_opener(line: &Line) -> bool {
+pub fn is_drawer_opener(line: &Line) -> bool {
     let inside = line.body.strip_prefix(b":");
     let Some(name) = inside.and_then(|rest| rest.strip_suffix(b":")) else {
         return false;

@@ -1,6 +1,7 @@
-//! Document 01, "Sample readings", with the line numbers of document 02, order 7.
+//! Document 01, "Sample readings", with the line numbers of document 02, order 7; searches for
+//! closers, order 3.
 
-use plain_reader::{answer, lookup, read, Reading, NUMBERS_OF_A_RECORD};
+use plain_reader::{answer, closer_search, lookup, read, Reading, NUMBERS_OF_A_RECORD};
 
 /// The lines of `text` with byte 10 after each.
 fn book(lines: &[&str]) -> Vec<u8> {
@@ -202,5 +203,90 @@ mod easy_wrong_turns {
             [2, 7, 11, 11, 11, 0, 1, 3],
         ];
         assert_eq!(table(&text), expected);
+    }
+}
+
+mod closers {
+    use super::*;
+
+    /// The search up to the text's end.
+    fn search(text: &[u8], at: usize) -> (u32, usize, usize, usize) {
+        closer_search(text, at, text.len())
+    }
+
+    #[test]
+    fn one_line_compared() {
+        assert_eq!(search(b"#+begin_a\nx\n#+end_a\n", 0), (1, 12, 20, 1));
+    }
+
+    #[test]
+    fn no_closer_counted_to_the_end() {
+        assert_eq!(search(b"#+begin_a\nx\n# c\n:END:\n", 0), (0, 0, 0, 1));
+    }
+
+    #[test]
+    fn indented_and_blank_lines() {
+        let text = b"#+begin_a\n  # x\n\n\t#+end_a\n";
+        assert_eq!(search(text, 0), (1, 17, 26, 2));
+    }
+
+    #[test]
+    fn byte_13_before_the_mark_is_compared_but_no_closer() {
+        let text = b"#+begin_a\n\r#+end_a\n#+end_a\n";
+        assert_eq!(search(text, 0), (1, 19, 27, 2));
+    }
+
+    #[test]
+    fn first_closer_closes() {
+        let text = b"#+begin_a\n#+begin_a\n#+end_a\n#+end_a\n";
+        assert_eq!(search(text, 0), (1, 20, 28, 2));
+    }
+
+    #[test]
+    fn many_unclosed_drawers() {
+        let text = b":a:\n:a:\n:a:\n:a:\n";
+        assert_eq!(search(text, 0), (0, 0, 0, 3));
+        assert_eq!(search(text, 12), (0, 0, 0, 0));
+    }
+
+    #[test]
+    fn colon_lines_are_not_compared_for_a_block() {
+        assert_eq!(search(b"#+begin_d\n:END:\n#+end_d", 0), (1, 16, 23, 1));
+    }
+
+    #[test]
+    fn blank_bytes_after_the_closer() {
+        assert_eq!(search(b"#+begin_a\n#+end_a \r\n", 0), (1, 10, 20, 1));
+    }
+
+    #[test]
+    fn a_closer_takes_no_parameters() {
+        assert_eq!(search(b"#+begin_a\n#+end_a x\n", 0), (0, 0, 0, 1));
+    }
+
+    #[test]
+    fn keywords_and_comments_count() {
+        let text = b"#+begin_a\n#+k: v\n#\n##\n#+end_a\n";
+        assert_eq!(search(text, 0), (1, 22, 30, 4));
+    }
+
+    #[test]
+    fn the_end_cuts_a_line() {
+        let text = b":a:\n:end: x\n";
+        assert_eq!(closer_search(text, 0, 9), (1, 4, 9, 1));
+        assert_eq!(closer_search(text, 0, 11), (0, 0, 0, 1));
+        assert_eq!(closer_search(b":a:b\n:end:", 0, 3), (0, 0, 0, 0));
+    }
+
+    #[test]
+    fn without_an_opener_all_is_0() {
+        let text = b" :a:\n:end:\n:x\n:end:\n";
+        let none = (0, 0, 0, 0);
+        for at in [1, 5, 11, 20, 21, usize::MAX] {
+            assert_eq!(search(text, at), none, "at {at}");
+        }
+        for end in [0, text.len() + 1, usize::MAX] {
+            assert_eq!(closer_search(text, 0, end), none, "end {end}");
+        }
     }
 }

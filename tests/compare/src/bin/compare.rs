@@ -8,6 +8,7 @@ use std::time::{Duration, Instant};
 use comparison::check::{check, Tally};
 use comparison::escape::escape;
 use comparison::random::Random;
+use comparison::searches::MEETINGS;
 use comparison::texts::{text, CLASSES};
 
 const COUNT: u64 = 200_000;
@@ -43,16 +44,18 @@ fn main() -> ExitCode {
     }
     println!("{}", summary(count, &texts, &tally));
     if count >= COUNT && !sees_all(&texts, &tally) {
-        eprintln!("compare: a class of text, an answer or a kind never came");
+        eprintln!("compare: a class of text, an answer, a kind or a sort of search never came");
         return ExitCode::FAILURE;
     }
     ExitCode::SUCCESS
 }
 
-/// Did each class of text, each answer of both calls and each kind of record come?
+/// Did each class of text, each answer of readings and lookups, each kind of record and each sort of
+/// search for a closer come?
 fn sees_all(texts: &[usize], tally: &Tally) -> bool {
     let lookups = [0, 1, 4, 5, 6, 7].map(|number| tally.lookups[number]);
-    let seen = [texts, &tally.readings, &lookups, &tally.kinds[1..]].concat();
+    let kinds = &tally.kinds[1..];
+    let seen = [texts, &tally.readings, &lookups, kinds, &tally.searches].concat();
     seen.iter().all(|count| *count > 0)
 }
 
@@ -71,13 +74,18 @@ fn summary(count: u64, texts: &[usize], tally: &Tally) -> String {
     let classes: Vec<String> = classes
         .map(|(class, seen)| format!("{class:?} {seen}"))
         .collect();
+    let searches = MEETINGS.iter().zip(tally.searches);
+    let searches: Vec<String> = searches
+        .map(|((meeting, _), seen)| format!("{meeting} {seen}"))
+        .collect();
     format!(
         "compare: {count} texts agree ({}); readings by number {}; lookups by number {}; \
-         records by kind {}",
+         records by kind {}; searches for closers: {}",
         classes.join(", "),
         by_number(&tally.readings),
         by_number(&tally.lookups),
         by_number(&tally.kinds),
+        searches.join(", "),
     )
 }
 
