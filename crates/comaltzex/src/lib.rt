@@ -14,6 +14,9 @@ use text::number;
 // The version of this interface, as specs/Numbers has it.
 const VERSION: u32 = 3;
 
+// Both ends of a line that was not found.
+const NOWHERE: usize = 0;
+
 // The number of a reading call's answer and its count.
 #[repr(C)]
 pub struct Reading {
@@ -111,8 +114,8 @@ pub extern "C" fn comaltzex_find_closer(text: &[u8], at: usize, end: usize) -> C
         },
         Closer::Nothing => ClosingLine {
             found: 0,
-            start: 0,
-            end: 0,
+            start: NOWHERE,
+            end: NOWHERE,
             compared: search.compared,
         },
     }
