@@ -1,7 +1,7 @@
 -- Laws of `NoLine` and `Knows`: what no line from a line on is, none from a later line on is.
 -- Assumes nothing.
 use mathlib.Core.Path.{_≡_, sym, ap, _∙_}
-use mathlib.Core.Bool.{Bool, true, false, true≢false}
+use mathlib.Core.Bool.{Bool, true, true≢false}
 use mathlib.Core.List.{List, [], _∷_}
 use mathlib.Core.Option.{none, map-eq-none-iff}
 use Prim.Native.Nat.{ℕ, zero, suc, _+_}

@@ -20,8 +20,8 @@ returns-4 : tie.Need-returns-4
 returns-4 c =
     let at-stars = c .before .before in
     let at-line = at-stars .before in
-    heading-here _ _ _ (at-stars .heading-stars .ensures) (c .before .if3 .left) (sym (at-line .before .starts-line .ensures) ∙ not-false _ (at-line .if2 .left)) _
-    (c .line-end .ensures)
+    let starts = sym (at-line .before .starts-line .ensures) ∙ not-false _ (at-line .if2 .left) in
+    heading-here _ _ _ (at-stars .heading-stars .ensures) (c .before .if3 .left) starts _ (c .line-end .ensures)
 
 pub find-heading-spec : {M : Type 1} → statement M
 find-heading-spec =

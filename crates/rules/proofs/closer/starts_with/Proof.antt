@@ -1,7 +1,6 @@
 -- `rules::closer::starts_with` meets its contract: past the blank bytes stands the mark, or the line ends.
 -- Assumes nothing.
 use mathlib.Core.Path.{sym, ap, _∙_}
-use native.Mathlib.Omega.{arith}
 use lib.Dec.{eqb}
 use borrow.Author.Needs.{needs}
 use Rattle.rules.proofs.Laws.Closers.{startsWith-end, startsWith-first}

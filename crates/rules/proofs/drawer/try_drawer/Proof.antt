@@ -31,7 +31,8 @@ returns-3 : tie.Need-returns-3
 returns-3 c =
     let at-closer = c .before .before in
     let at-line = at-closer .before in
-    drawer-closer _ _ _ (at-line .before .before .before .before .before .pre .line) (sym (at-line .before .is-drawer-line .ensures) ∙ not-false _ (at-line .if2 .left)) _
+    let opens = sym (at-line .before .is-drawer-line .ensures) ∙ not-false _ (at-line .if2 .left) in
+    drawer-closer _ _ _ (at-line .before .before .before .before .before .pre .line) opens _
     (sym (c .enum-told .given .1) ∙ searched-closer _ _ _ _ _ (at-closer .find-end .ensures))
 
 add : tie.Need-add-t12
@@ -43,9 +44,10 @@ add c =
     let e = start .args .scope .end in
     let o = lineOf-order _ _ _ (start .pre .line) in
     let ls = linesIn s (l .end) e in
+    let closer = sym (c .before .closer .given .1) ∙ searched-closer _ _ _ _ _ (at-closer .find-end .ensures) in
     omega (
       arith,
-      closer-count (l .end) ls _ (linesBefore-below (word ":end:") ls) _ _ _ (sym (c .before .closer .given .1) ∙ searched-closer _ _ _ _ _ (at-closer .find-end .ensures)),
+      closer-count (l .end) ls _ (linesBefore-below (word ":end:") ls) _ _ _ closer,
       linesIn-length s (l .end) e (o .4) (o .5),
     )
 
@@ -53,7 +55,8 @@ returns-4 : tie.Need-returns-4
 returns-4 c =
     let at-closer = c .before .before .before in
     let at-line = at-closer .before in
-    drawer-closer _ _ _ (at-line .before .before .before .before .before .pre .line) (sym (at-line .before .is-drawer-line .ensures) ∙ not-false _ (at-line .if2 .left)) _
+    let opens = sym (at-line .before .is-drawer-line .ensures) ∙ not-false _ (at-line .if2 .left) in
+    drawer-closer _ _ _ (at-line .before .before .before .before .before .pre .line) opens _
     (sym (c .before .closer .given .1) ∙ searched-closer _ _ _ _ _ (at-closer .find-end .ensures))
 
 pub try-drawer-spec : {M : Type 1} → statement M

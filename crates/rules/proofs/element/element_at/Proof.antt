@@ -57,7 +57,8 @@ add c =
     let l = start .args .line in
     let e = start .args .scope .end in
     let o = lineOf-order _ _ _ (start .pre .line) in
-    omega (arith, ap (λ (x : LineRun). x .lines) (at-lines .paragraph-lines .ensures .0), paragraphLines-le (linesIn s (l .end) e), linesIn-length s (l .end) e (o .4) (o .5))
+    let lines = ap (λ (x : LineRun). x .lines) (at-lines .paragraph-lines .ensures .0) in
+    omega (arith, lines, paragraphLines-le (linesIn s (l .end) e), linesIn-length s (l .end) e (o .4) (o .5))
 
 returns-2 : tie.Need-returns-2
 returns-2 c =

@@ -1,9 +1,8 @@
 -- `rules::opener::search_from_line` meets its contract: the line opens a drawer or names a block, and the closer of that is sought.
 -- Assumes nothing.
-use mathlib.Core.Path.{_≡_, sym, ap, _∙_}
+use mathlib.Core.Path.{_≡_, sym, _∙_}
 use mathlib.Core.Bool.{true, false}
-use mathlib.Core.List.{List, _++_}
-use Prim.Native.Nat.{ℕ, _+_, _≤_}
+use Prim.Native.Nat.{_+_, _≤_}
 use native.Mathlib.Omega.{arith}
 use lib.ListN.{length}
 use borrow.Author.Needs.{needs}
@@ -12,7 +11,6 @@ use Rattle.text.specs.Runs.{word, begins}
 use Rattle.text.specs.Parts.{part, lineIn}
 use Rattle.text.proofs.Laws.Parts.{part-slice}
 use Rattle.rules.specs.LineTests.{isDrawerLine}
-use Rattle.rules.specs.Closers.{searched}
 use Rattle.rules.proofs.Laws.LineOf.{lineOf-order, lineOf-end}
 use Rattle.rules.proofs.Laws.Blocks.{unnamed-no, unnamed-empty, begin-order, name-order, blockName-part, block-name, closer-bytes}
 use Rattle.rules.proofs.Laws.Openers.{opener-drawer, opener-none, opener-block}
@@ -41,8 +39,8 @@ unfolding word
 returns-2 c =
     let at-begin = c .before .before in
     let at-other = at-begin .before .before in
-    c .no-search .ensures
-    ∙ opener-none _ _ _ (other at-other) (unnamed-no _ _ _ (at-other .before .before .before .pre) (sym (at-begin .begins-with .ensures) ∙ not-true _ (c .before .if2 .taken)))
+    let no = sym (at-begin .begins-with .ensures) ∙ not-true _ (c .before .if2 .taken) in
+    c .no-search .ensures ∙ opener-none _ _ _ (other at-other) (unnamed-no _ _ _ (at-other .before .before .before .pre) no)
 
 -- ---- the body begins with `#+begin_`
 
@@ -61,12 +59,15 @@ returns-3 c =
     let at-begin = at-name .before .before in
     let at-other = at-begin .before .before .before in
     let pre = at-other .before .before .before .pre in
-    c .no-search2 .ensures ∙ opener-none _ _ _ (other at-other) (unnamed-empty _ _ _ pre (begin at-begin) _ (at-name .word-end .ensures) (c .before .if3 .taken))
+    let no = unnamed-empty _ _ _ pre (begin at-begin) _ (at-name .word-end .ensures) (c .before .if3 .taken) in
+    c .no-search2 .ensures ∙ opener-none _ _ _ (other at-other) no
 
 -- the name's end
 ends : (c : tie.After-word-end) → let args = c .before .before .before .before .before .before .before .before .args in
     (args .line .from + 8 ≤ c .word-end .result) × (c .word-end .result ≤ args .line .to) × (args .line .to ≤ length (args .text .now))
-ends c = let at-begin = c .before .before in name-order _ _ _ (at-begin .before .before .before .before .before .before .pre) (begin at-begin) _ (c .word-end .ensures)
+ends c =
+    let at-begin = c .before .before in
+    name-order _ _ _ (at-begin .before .before .before .before .before .before .pre) (begin at-begin) _ (c .word-end .ensures)
 
 find-closer-requires : tie.Need-find-closer-requires
 unfolding word
