@@ -2,6 +2,7 @@
 -- Assumes nothing.
 use mathlib.Core.Path.{sym, _∙_}
 use mathlib.Core.Bool.{true≢false}
+use native.Mathlib.Omega.{arith}
 use borrow.Author.Needs.{needs}
 use borrow.Author.Tests.{not-true}
 use Rattle.rules.proofs.Laws.LineOf.{lineOf-order}
@@ -17,7 +18,7 @@ returns c z =
     knows-next _ _ _ _ _ (pre .line) (pre .known) .ends (not-true _ (c .if1 .taken))
 
 find-end-requires : tie.Need-find-end-requires
-find-end-requires c κs = let o = lineOf-order _ _ _ (c .before .before .before .before .before .pre .line) in (o .4, o .5)
+find-end-requires c κs = let o = lineOf-order _ _ _ (c .before .before .before .before .before .pre .line) in omega arith
 
 returns-3 : tie.Need-returns-3
 returns-3 c z = closer-nothing _ _ _ _ (sym (c .enum-told2 .given .1) ∙ searched-closer _ _ _ _ _ (c .before .before .find-end .ensures))

@@ -33,7 +33,7 @@ has-name-requires c κs =
     omega (arith, name-order _ _ _ (at-begin .before .before .before .before .before .pre .line) (begin at-begin) _ (c .word-end .ensures))
 
 closing-names-requires : tie.Need-closing-names-requires
-closing-names-requires c κs = let o = lineOf-order _ _ _ (c .before .before .before .before .before .before .before .before .before .pre .line) in (o .4, o .5)
+closing-names-requires c κs = let o = lineOf-order _ _ _ (c .before .before .before .before .before .before .before .before .before .pre .line) in omega arith
 
 pub names-after-spec : {M : Type 1} → statement M
 names-after-spec =

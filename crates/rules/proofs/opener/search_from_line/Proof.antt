@@ -18,7 +18,7 @@ use Rattle.rules.proofs.opener.search_from_line.Statement.{statement}
 use Rattle.rules.proofs.opener.search_from_line.Tie as tie
 
 find-end-requires : tie.Need-find-end-requires
-find-end-requires c κs = let o = lineOf-order _ _ _ (c .before .before .before .pre) in (o .4, o .5)
+find-end-requires c κs = let o = lineOf-order _ _ _ (c .before .before .before .pre) in omega arith
 
 returns : tie.Need-returns
 returns c =
@@ -76,7 +76,7 @@ find-closer-requires c κs =
     let at-begin = at-name .before .before in
     let pre = at-begin .before .before .before .before .before .before .pre in
     let o = lineOf-order _ _ _ pre in
-    (o .4, o .5, rw (part-slice _ _ _ (ends at-name .0)) (closer-bytes _ _ _ pre (begin at-begin) _ (at-name .word-end .ensures)))
+    (omega arith, omega arith, rw (part-slice _ _ _ (ends at-name .0)) (closer-bytes _ _ _ pre (begin at-begin) _ (at-name .word-end .ensures)))
 
 returns-4 : tie.Need-returns-4
 unfolding word
