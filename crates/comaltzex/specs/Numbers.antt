@@ -14,7 +14,7 @@ use Rattle.comaltzex.specs.declared.Reading.{Reading}
 use Rattle.comaltzex.specs.declared.Value.{Value}
 use Rattle.comaltzex.specs.declared.ClosingLine.{ClosingLine}
 
--- the version of the interface: another one whenever an answer, the record's width or a function's signature changes
+-- the version of the interface: another one whenever an answer, the record's width or a function's signature changes, or a function is added
 abbrev pub version : ℕ
 version = 3
 
