@@ -76,7 +76,7 @@ find-closer-requires c κs =
     let at-begin = at-name .before .before in
     let pre = at-begin .before .before .before .before .before .before .pre in
     let o = lineOf-order _ _ _ pre in
-    (omega arith, omega arith, rw (part-slice _ _ _ (ends at-name .0)) (closer-bytes _ _ _ pre (begin at-begin) _ (at-name .word-end .ensures)))
+    (o .4, o .5, rw (part-slice _ _ _ (ends at-name .0)) (closer-bytes _ _ _ pre (begin at-begin) _ (at-name .word-end .ensures)))
 
 returns-4 : tie.Need-returns-4
 unfolding word
