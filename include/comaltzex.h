@@ -2,10 +2,12 @@
  * comaltzex.h - a proved reader of Org order books.
  *
  * comaltzex_read lists everything in a text as a flat table of records;
- * comaltzex_lookup finds one property of one heading; comaltzex_find_closer
- * finds the line that closes a block or drawer. All functions are plain: they
- * allocate nothing and keep no state, so threads may call them at once (each
- * with a table of its own).
+ * comaltzex_lookup finds one property of one heading, comaltzex_planning the
+ * dates of its planning line; comaltzex_timestamp reads one timestamp, and
+ * comaltzex_days_between counts the days from one date to another;
+ * comaltzex_find_closer finds the line that closes a block or drawer. All
+ * functions are plain: they allocate nothing and keep no state, so threads may
+ * call them at once (each with a table of its own).
  *
  * Stack: a call needs up to 96 KB of stack.
  *
@@ -31,7 +33,7 @@ extern "C" {
  * comaltzex_version() is another number, the library is not the one that this
  * header declares.
  */
-#define COMALTZEX_VERSION 3
+#define COMALTZEX_VERSION 4
 
 #define COMALTZEX_TEXT_LIMIT 65536 /* the longest text, in bytes */
 #define COMALTZEX_DEPTH_LIMIT 32   /* the deepest drawer or greater block */
@@ -47,8 +49,9 @@ enum comaltzex_number {
     COMALTZEX_NO_HEADING = 4, /* no heading line starts at that byte */
     COMALTZEX_NO_DRAWER = 5,  /* that heading has no property drawer */
     COMALTZEX_NO_KEY = 6,     /* no line of that drawer has the key */
-    COMALTZEX_BAD_KEY = 7     /* the key is empty, over COMALTZEX_KEY_LIMIT, holds
+    COMALTZEX_BAD_KEY = 7,    /* the key is empty, over COMALTZEX_KEY_LIMIT, holds
                                  byte 9, 10, 13 or 32, or ends in '+' */
+    COMALTZEX_NO_DAY = 11     /* a date is no calendar day of years 1 to 9999 */
 };
 
 /* The numbers of a record, in order. */
@@ -103,6 +106,80 @@ typedef struct comaltzex_closer {
     size_t end;
     size_t compared; /* lines */
 } comaltzex_closer;
+
+/* The kind of a timestamp: `<..>` is active, `[..]` inactive. */
+enum comaltzex_stamp_kind {
+    COMALTZEX_STAMP_NONE = 0,           /* there is no timestamp */
+    COMALTZEX_STAMP_ACTIVE = 1,         /* one date, with a time or without */
+    COMALTZEX_STAMP_ACTIVE_TIMES = 2,   /* one date with a time range */
+    COMALTZEX_STAMP_ACTIVE_DATES = 3,   /* two dates, each with a time or without */
+    COMALTZEX_STAMP_INACTIVE = 4,       /* the same three, inactive */
+    COMALTZEX_STAMP_INACTIVE_TIMES = 5,
+    COMALTZEX_STAMP_INACTIVE_DATES = 6
+};
+
+typedef struct comaltzex_date {
+    uint32_t year;
+    uint32_t month;
+    uint32_t day;
+} comaltzex_date;
+
+/*
+ * A date of a timestamp and what goes with it; the numbers of what it lacks are
+ * 0. A unit is one of the bytes 'h', 'd', 'w', 'm' and 'y', in lower case
+ * whatever the text has.
+ */
+typedef struct comaltzex_moment {
+    comaltzex_date date;
+    uint32_t has_time;    /* 0 or 1 */
+    uint32_t hour;
+    uint32_t minute;
+    uint32_t repeat_mark; /* 0 no repeater, 1 "+", 2 "++", 3 ".+" */
+    uint32_t every;       /* the repeater's number and unit */
+    uint32_t every_unit;
+    uint32_t within;      /* the number and unit after its "/" */
+    uint32_t within_unit; /* 0 without a "/" */
+    uint32_t delay_mark;  /* 0 no delay, 1 "-", 2 "--" */
+    uint32_t delay;       /* the delay's number and unit */
+    uint32_t delay_unit;
+    uint32_t delay_first; /* 1 if there are both and the delay stands before the
+                             repeater, else 0 */
+} comaltzex_moment;
+
+/*
+ * A timestamp. What the second moment is depends on the kind:
+ *
+ *   0     nothing: every number of the timestamp is 0
+ *   1, 4  nothing: its numbers are 0
+ *   2, 5  the first one's date and the time that ends the range; repeater and
+ *         delay stand in the first only
+ *   3, 6  the second date, with its own time, repeater and delay
+ */
+typedef struct comaltzex_stamp {
+    uint32_t kind; /* of enum comaltzex_stamp_kind */
+    comaltzex_moment first;
+    comaltzex_moment second;
+} comaltzex_stamp;
+
+/* A timestamp, and the byte after it. */
+typedef struct comaltzex_found_stamp {
+    uint32_t kind; /* kind, first and second as in comaltzex_stamp */
+    size_t end;    /* 0 with kind 0 */
+    comaltzex_moment first;
+    comaltzex_moment second;
+} comaltzex_found_stamp;
+
+typedef struct comaltzex_plan {
+    uint32_t number; /* 0, 1 or 4 */
+    comaltzex_stamp closed;
+    comaltzex_stamp deadline;
+    comaltzex_stamp scheduled;
+} comaltzex_plan;
+
+typedef struct comaltzex_days {
+    uint32_t number; /* 0 or 11 */
+    int32_t days;
+} comaltzex_days;
 
 /*
  * Reads a text into a table of table_len numbers, with room for
@@ -167,6 +244,68 @@ comaltzex_part comaltzex_lookup(const uint8_t *text, size_t text_len, size_t at,
 comaltzex_closer comaltzex_find_closer(const uint8_t *text, size_t text_len, size_t at,
                                        size_t end);
 
+/*
+ * Reads the timestamp that starts at byte `at`. An active one is
+ *
+ *   <DATE DAYNAME TIME REPEATER DELAY>
+ *
+ * of which only the date must be there; the delay may stand before the repeater.
+ *
+ *   DATE      `YYYY-MM-DD`
+ *   DAYNAME   bytes none of which is blank, a digit, '+', '-', ']', '>' or
+ *             byte 10
+ *   TIME      `H:MM` or `HH:MM`; or a time range, `TIME-TIME`
+ *   REPEATER  `+`, `++` or `.+`, a number and a unit; it may go on with `/`, a
+ *             number and a unit
+ *   DELAY     `-` or `--`, a number and a unit
+ *
+ * Numbers have one to nine digits, units are the letters h, d, w, m and y in
+ * either case. One or more blank bytes (32, 9 and 13) stand between the parts,
+ * none after the opening and before the closing bracket.
+ *
+ * An inactive timestamp has `[` and `]` instead. A second date follows at once,
+ * as `--` and the same in the same brackets; neither date has a time range then.
+ * If anything else follows, the timestamp ends with its first brackets.
+ *
+ * Only the shape is judged: 30 February and minute 77 pass. Diary timestamps,
+ * `<%%(..)>`, are none.
+ *
+ * `end` is the byte after the timestamp. All numbers are 0 if none starts at
+ * `at`, which may be any number. The text may be of any length.
+ */
+comaltzex_found_stamp comaltzex_timestamp(const uint8_t *text, size_t text_len, size_t at);
+
+/*
+ * Gives the timestamps of the planning line of the heading whose line starts at
+ * byte `at`. That is the line right after the heading's, if after its
+ * indentation (bytes 32 and 9) there are one or more parts `KEYWORD: TIMESTAMP`
+ * and nothing else: one or more blank bytes after each colon and between the
+ * parts, and any number of them at the line's end. The keywords are CLOSED,
+ * DEADLINE and SCHEDULED; the case of their letters counts for nothing, and where
+ * one repeats its last timestamp counts. The first of these that holds is the
+ * answer:
+ *
+ *   1  the text is over 65,536 bytes
+ *   4  no heading line starts at byte `at`
+ *   0  each of the three is that keyword's timestamp; it is of kind 0 if the
+ *      heading has no planning line, or the line has no such keyword
+ *
+ * With 1 and 4 every number of all three is 0.
+ */
+comaltzex_plan comaltzex_planning(const uint8_t *text, size_t text_len, size_t at);
+
+/*
+ * Counts the days from one date to a second one, in the Gregorian calendar
+ * throughout. The first of these that holds is the answer:
+ *
+ *   11  one of the dates is no calendar day of years 1 to 9999; days is 0
+ *   0   days is how many days the second date is after the first: below 0 if it
+ *       is before it, 0 if they are equal
+ */
+comaltzex_days comaltzex_days_between(uint32_t year, uint32_t month, uint32_t day,
+                                      uint32_t second_year, uint32_t second_month,
+                                      uint32_t second_day);
+
 /* The library's own COMALTZEX_RECORD_SIZE. */
 size_t comaltzex_record_size(void);
 
@@ -193,6 +332,8 @@ static inline const char *comaltzex_number_name(uint32_t number)
         return "no key";
     case COMALTZEX_BAD_KEY:
         return "bad key";
+    case COMALTZEX_NO_DAY:
+        return "no calendar day";
     default:
         return "unknown";
     }

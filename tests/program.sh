@@ -108,6 +108,9 @@ prints_kinds '* A\n:PROPERTIES:\n:A++:\n:END:\n' '1 2 3 7 16'
 prints_kinds '* A\n:PROPERTIES:\n:A+:\n:END:\n' '1 2 3 5 6'
 prints_kinds '#+:' '1 3 16'
 prints_kinds '#+::' '1 3 15'
+# document 02, order 1
+prints_kinds '* A\nSCHEDULED: <2024-01-01>\n:PROPERTIES:\n:END:\n' '1 2 3 4 5'
+prints_kinds '* A\nSCHEDULED: ring him back\n:PROPERTIES:\n:END:\n' '1 2 3 16 7'
 printf '\r\n\ra\n' >"$text"
 printf '1 0 5 0 5 0 0 0\n3 2 5 2 5 0 0 1\n16 2 5 2 5 1 0 1\n' >"$wanted"
 prints 'byte 13 ends no line'

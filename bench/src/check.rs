@@ -13,10 +13,14 @@ const PROSE_LIMIT: f64 = 3.0;
 const HOSTILE_SIZE: usize = 64 * 1024;
 const HOSTILE_LIMIT: f64 = 0.1; // seconds
 
-/// A linear search has about the same find/count in both texts, a quadratic one 16 times as
-/// much in the long one.
-const SEARCH_SIZES: [usize; 2] = [4 * 1024, 64 * 1024];
-const SEARCH_LIMIT: f64 = 2.0;
+/// A linear call takes about as long beside the count in both texts, a quadratic one 16 times
+/// as long in the long one.
+const GROWING_SIZES: [usize; 2] = [4 * 1024, 64 * 1024];
+const GROWING_PARTS: [usize; 2] = [64, 1024];
+const GROWTH_LIMIT: f64 = 2.0;
+
+/// A count of days takes as long in the calendar's last year as in its first.
+const DAYS_LIMIT: f64 = 2.0;
 
 const TRIES: usize = 5;
 
@@ -38,8 +42,21 @@ pub fn passes() -> bool {
         ratio_held(&prose, PROSE_LIMIT),
     ];
     held.extend(texts::hostile(HOSTILE_SIZE).iter().map(time_held));
-    held.push(growth_held(SEARCH_SIZES.map(texts::one_opener)));
+    held.extend(calls_held());
+    held.push(days_held());
     held.iter().all(|&held| held)
+}
+
+/// The calls that are to be linear, each on a text and one that is 16 times as long.
+fn calls_held() -> [bool; 3] {
+    let openers = GROWING_SIZES.map(texts::one_opener);
+    let stamps = GROWING_SIZES.map(texts::spaced_stamp);
+    let planning_lines = GROWING_PARTS.map(texts::planning_line);
+    [
+        growth_held("find", contest::find_closer, openers),
+        growth_held("stamp", contest::timestamp, stamps),
+        growth_held("plan", contest::planning, planning_lines),
+    ]
 }
 
 /// Is a reading at most `limit` times as long as the count, in one of the tries?
@@ -56,18 +73,33 @@ fn ratio_held(text: &Text, limit: f64) -> bool {
     held
 }
 
-/// Is a search at most `SEARCH_LIMIT` times as long beside the count in the long text as in the
+/// Is a call at most `GROWTH_LIMIT` times as long beside the count in the long text as in the
 /// short one, in one of the tries?
-fn growth_held([short, long]: [Text; 2]) -> bool {
-    let ratio = |text| ratio(contest::find_closer, text, &mut []);
-    let least = least(SEARCH_LIMIT, || ratio(&long) / ratio(&short));
-    let held = least <= SEARCH_LIMIT;
+fn growth_held(column: &str, call: Contender, [short, long]: [Text; 2]) -> bool {
+    let ratio = |text| ratio(call, text, &mut []);
+    let least = least(GROWTH_LIMIT, || ratio(&long) / ratio(&short));
+    let held = least <= GROWTH_LIMIT;
     println!(
-        "{}: {}, {} bytes: find/count {least:.2} times that of {} bytes, limit {SEARCH_LIMIT}",
+        "{}: {}, {} bytes: {column}/count {least:.2} times that of {} bytes, limit {GROWTH_LIMIT}",
         verdict(held),
         long.name,
         long.bytes.len(),
         short.bytes.len()
+    );
+    held
+}
+
+/// Is a count of days at most `DAYS_LIMIT` times as long in the last year as in the first, in
+/// one of the tries?
+fn days_held() -> bool {
+    let least = least(DAYS_LIMIT, || {
+        let [first, last] = contest::contest_of_days(texts::YEARS, &EFFORT);
+        best(&last) / best(&first)
+    });
+    let held = least <= DAYS_LIMIT;
+    println!(
+        "{}: days between dates of year 9999: {least:.2} times those of year 1, limit {DAYS_LIMIT}",
+        verdict(held)
     );
     held
 }

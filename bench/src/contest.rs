@@ -3,6 +3,8 @@
 use std::hint::black_box;
 use std::time::{Duration, Instant};
 
+use comaltzex::Date;
+
 use crate::count;
 
 /// A function to be timed on a text, with a table that fits.
@@ -16,6 +18,19 @@ pub fn comaltzex(text: &[u8], table: &mut [u32]) {
 /// The closer of the text's first line, up to the text's end.
 pub fn find_closer(text: &[u8], _: &mut [u32]) {
     black_box(comaltzex::find_closer(black_box(text), 0, text.len()));
+}
+
+/// The timestamp that is the text.
+pub fn timestamp(text: &[u8], _: &mut [u32]) {
+    let found = comaltzex::timestamp(black_box(text), 0);
+    black_box(found.expect("the text is a timestamp"));
+}
+
+/// The dates of the text's first heading.
+pub fn planning(text: &[u8], _: &mut [u32]) {
+    let plan = comaltzex::planning(black_box(text), 0).expect("the text starts with a heading");
+    assert!(plan.deadline.is_some(), "the heading has a deadline");
+    black_box(plan);
 }
 
 pub fn plain_reader(text: &[u8], table: &mut [u32]) {
@@ -42,9 +57,11 @@ pub struct Effort {
 /// Bytes read for one sample, so that short texts are read several times.
 const SAMPLE_BYTES: usize = 65_536;
 
-/// Times all contenders in every round, so that what slows the machine for a while
-/// slows them all. Gives each one's samples in nanoseconds a byte. The table is not
-/// cleared between readings; an untimed round comes first.
+/// Calls for one sample of a count of days.
+const SAMPLE_CALLS: usize = 1000;
+
+/// Times all contenders on a text. Gives each one's samples in nanoseconds a byte. The
+/// table is not cleared between readings; an untimed round comes first.
 pub fn contest<const N: usize>(
     text: &[u8],
     table: &mut [u32],
@@ -52,18 +69,44 @@ pub fn contest<const N: usize>(
     effort: &Effort,
 ) -> [Vec<f64>; N] {
     let readings = (SAMPLE_BYTES / text.len()).max(1);
-    let mut samples = [const { Vec::new() }; N];
     for contender in contenders {
         contender(text, table);
     }
+    in_turns(effort, |turn| {
+        let taken = time(|| (0..readings).for_each(|_| contenders[turn](text, table)));
+        taken.as_nanos() as f64 / (readings * text.len()) as f64
+    })
+}
+
+/// Times the count of days between each pair of dates. Gives each one's samples in
+/// nanoseconds a call.
+pub fn contest_of_days<const N: usize>(pairs: [[Date; 2]; N], effort: &Effort) -> [Vec<f64>; N] {
+    in_turns(effort, |turn| {
+        let taken = time(|| (0..SAMPLE_CALLS).for_each(|_| count_days(pairs[turn])));
+        taken.as_nanos() as f64 / SAMPLE_CALLS as f64
+    })
+}
+
+fn count_days(pair: [Date; 2]) {
+    let [first, second] = black_box(pair);
+    let days = comaltzex::days_between(first, second);
+    black_box(days.expect("both are calendar days"));
+}
+
+/// Takes a sample of each turn in every round, so that what slows the machine for a
+/// while slows them all.
+fn in_turns<const N: usize>(
+    effort: &Effort,
+    mut sample: impl FnMut(usize) -> f64,
+) -> [Vec<f64>; N] {
+    let mut samples = [const { Vec::new() }; N];
     let start = Instant::now();
     for round in 0..effort.most {
         if round >= effort.least && start.elapsed() >= effort.time {
             break;
         }
-        for (contender, samples) in contenders.iter().zip(&mut samples) {
-            let taken = time(|| (0..readings).for_each(|_| contender(text, table)));
-            samples.push(taken.as_nanos() as f64 / (readings * text.len()) as f64);
+        for (turn, samples) in samples.iter_mut().enumerate() {
+            samples.push(sample(turn));
         }
     }
     samples

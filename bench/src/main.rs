@@ -1,5 +1,6 @@
 //! How long a reading takes beside a count of byte 10 over the same text and
-//! beside an independent plain reader, and a search for a closer beside the count.
+//! beside an independent plain reader; a search for a closer, a timestamp and a
+//! planning line beside the count; and a count of days.
 //!
 //!     bench            prints the table
 //!     bench --check    exits with 1 if a limit of `check` is passed

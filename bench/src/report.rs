@@ -4,10 +4,12 @@ use std::time::Duration;
 
 use comaltzex::RECORD_SIZE;
 
-use crate::contest::{self, contest, median, median_ratio, Effort};
+use crate::contest::{self, contest, median, median_ratio, Contender, Effort};
 use crate::texts::{self, Text};
 
 const SIZES: [usize; 3] = [4 * 1024, 16 * 1024, 64 * 1024];
+const STAMP_SIZES: [usize; 4] = [1024, 4 * 1024, 16 * 1024, 64 * 1024];
+const PLANNING_PARTS: [usize; 4] = [16, 64, 256, 1024];
 
 const EFFORT: Effort = Effort {
     least: 3,
@@ -24,10 +26,21 @@ round's own. The machine is noisy: only ratios within one run count.
   vector  byte 10 counted by vector instructions
   plain   the independent plain reader
   find    comaltzex_find_closer, from the first line to the end
+  stamp   comaltzex_timestamp, on a text that is one timestamp
+  plan    comaltzex_planning, on a heading and its planning line
+  days    comaltzex_days_between, from 1 January to 31 December: nanoseconds a call
 ";
 
 pub fn print() {
     println!("{EXPLANATION}");
+    print_readings();
+    print_searches();
+    print_stamps();
+    print_plans();
+    print_days();
+}
+
+fn print_readings() {
     println!(
         "{:<16}{:>7}{:>9}{:>10}{:>8}{:>8}{:>10}{:>12}{:>12}",
         "text", "bytes", "records", "read", "count", "vector", "plain", "read/count", "read/plain"
@@ -37,6 +50,7 @@ pub fn print() {
         for text in texts::ordinary(size) {
             print_row(&text);
         }
+        print_row(&texts::planned(size));
     }
     print_row(&texts::shipped());
     for size in SIZES {
@@ -44,12 +58,39 @@ pub fn print() {
             print_row(&text);
         }
     }
-    println!(
-        "\n{:<16}{:>7}{:>10}{:>9}{:>8}{:>12}",
-        "search", "bytes", "compared", "find", "count", "find/count"
-    );
-    for size in SIZES {
-        print_search(&texts::one_opener(size));
+}
+
+fn print_searches() {
+    print_call_head("search", "compared", "find");
+    for text in SIZES.map(texts::one_opener) {
+        print_call(&text, agreed_search(&text), contest::find_closer);
+    }
+}
+
+fn print_stamps() {
+    print_call_head("timestamp", "blanks", "stamp");
+    for text in STAMP_SIZES.map(texts::spaced_stamp) {
+        let blanks = text.bytes.iter().filter(|&&byte| byte == b' ').count();
+        print_call(&text, blanks, contest::timestamp);
+    }
+}
+
+fn print_plans() {
+    print_call_head("planning", "parts", "plan");
+    for parts in PLANNING_PARTS {
+        print_call(&texts::planning_line(parts), parts, contest::planning);
+    }
+}
+
+fn print_days() {
+    println!("\n{:<16}{:>9}", "calendar", "days");
+    let samples = contest::contest_of_days(texts::YEARS, &EFFORT);
+    for ([first, _], samples) in texts::YEARS.iter().zip(&samples) {
+        println!(
+            "{:<16}{:>9.2}",
+            format!("year {}", first.year),
+            median(samples)
+        );
     }
 }
 
@@ -76,18 +117,27 @@ fn print_row(text: &Text) {
     );
 }
 
-fn print_search(text: &Text) {
-    let compared = agreed_search(text);
-    let contenders = [contest::find_closer, contest::count_one_at_a_time];
-    let [find, count] = contest(&text.bytes, &mut [], contenders, &EFFORT);
+/// The head of a table of one call on texts that grow by some amount.
+fn print_call_head(call: &str, amount: &str, column: &str) {
+    println!(
+        "\n{call:<16}{:>7}{amount:>10}{column:>9}{:>8}{:>12}",
+        "bytes",
+        "count",
+        format!("{column}/count")
+    );
+}
+
+fn print_call(text: &Text, amount: usize, call: Contender) {
+    let contenders = [call, contest::count_one_at_a_time];
+    let [taken, count] = contest(&text.bytes, &mut [], contenders, &EFFORT);
     println!(
         "{:<16}{:>7}{:>10}{:>9.2}{:>8.2}{:>12.2}",
         text.name,
         text.bytes.len(),
-        compared,
-        median(&find),
+        amount,
+        median(&taken),
         median(&count),
-        median_ratio(&find, &count)
+        median_ratio(&taken, &count)
     );
 }
 

@@ -1,5 +1,7 @@
 //! The texts: made by rule, the same in every run, and the book that ships.
 
+use comaltzex::Date;
+
 /// A text to read, and what it is like.
 pub struct Text {
     pub name: &'static str,
@@ -25,6 +27,18 @@ pub fn one_order() -> Text {
     Text {
         name: "one order",
         bytes: b"* A\n:PROPERTIES:\n:VIN: 7\n:END:\n\nhi\n".to_vec(),
+    }
+}
+
+/// Small orders, each with a planning line of three parts.
+pub fn planned(size: usize) -> Text {
+    let order = format!(
+        "* A\n{}\n:PROPERTIES:\n:VIN: 7\n:END:\n\n",
+        PLANNING.join(" ")
+    );
+    Text {
+        name: "planned orders",
+        bytes: order.repeat(size / order.len()).into_bytes(),
     }
 }
 
@@ -74,6 +88,41 @@ pub fn one_opener(size: usize) -> Text {
         name: "one opener",
         bytes: filled("#+begin_a\n", "#+end_b\n", size),
     }
+}
+
+/// A timestamp with all its parts, and as many blanks between them as fit the size.
+pub fn spaced_stamp(size: usize) -> Text {
+    let parts = ["<2026-11-16", "Mon", "09:30-10:00", "+1w/2w", "-3d>"];
+    let blanks = (size - parts.concat().len()) / (parts.len() - 1);
+    Text {
+        name: "spaced stamp",
+        bytes: parts.join(&" ".repeat(blanks)).into_bytes(),
+    }
+}
+
+/// A heading whose planning line has so many parts.
+pub fn planning_line(parts: usize) -> Text {
+    let parts: Vec<&str> = PLANNING.into_iter().cycle().take(parts).collect();
+    Text {
+        name: "planning line",
+        bytes: format!("* A\n{}\n", parts.join(" ")).into_bytes(),
+    }
+}
+
+const PLANNING: [&str; 3] = [
+    "CLOSED: [2026-11-16 Mon 09:30]",
+    "DEADLINE: <2026-11-20 Fri -3d>",
+    "SCHEDULED: <2026-11-16 Mon 08:00-10:00 +1w>",
+];
+
+/// The first and last day of the calendar's first year and of its last.
+pub const YEARS: [[Date; 2]; 2] = [year(1), year(9999)];
+
+const fn year(year: u32) -> [Date; 2] {
+    let (month, day) = (1, 1);
+    let first = Date { year, month, day };
+    let (month, day) = (12, 31);
+    [first, Date { year, month, day }]
 }
 
 /// The first lines, then the others again and again, cut to size.
@@ -236,6 +285,8 @@ const WORDS: [&str; 24] = [
 
 #[cfg(test)]
 mod tests {
+    use comaltzex::Kind;
+
     use super::*;
 
     #[test]
@@ -248,6 +299,40 @@ mod tests {
                 .iter()
                 .all(|&length| length <= size && length > size - 13));
         }
+    }
+
+    #[test]
+    fn a_spaced_stamp_is_one_timestamp() {
+        for size in [64, 4096, 65_536] {
+            let text = spaced_stamp(size).bytes;
+            assert!(text.len() <= size && text.len() > size - 4);
+            let found = comaltzex::timestamp(&text, 0).unwrap();
+            assert_eq!(found.span, 0..text.len());
+            let displayed = found.timestamp.to_string();
+            assert_eq!(displayed, "<2026-11-16 09:30-10:00 +1w/2w -3d>");
+        }
+    }
+
+    #[test]
+    fn a_planning_line_has_all_three_dates() {
+        for parts in [3, 16, 1024] {
+            let text = planning_line(parts).bytes;
+            let colons = text.windows(2).filter(|pair| pair == b": ").count();
+            assert_eq!(colons, parts);
+            let plan = comaltzex::planning(&text, 0).unwrap();
+            let dates = [plan.closed, plan.deadline, plan.scheduled];
+            assert!(dates.iter().all(Option::is_some));
+        }
+    }
+
+    #[test]
+    fn each_planned_order_has_its_planning_line() {
+        let text = planned(4096).bytes;
+        assert!(text.len() <= 4096 && text.len() > 3900);
+        let table = comaltzex::Table::read(&text).unwrap();
+        let count = |kind| table.records().filter(|r| r.kind == kind).count();
+        assert_eq!(count(Kind::Planning), count(Kind::Heading));
+        assert_eq!(count(Kind::PropertyDrawer), count(Kind::Heading));
     }
 
     #[test]

@@ -1,5 +1,5 @@
 #!/bin/sh
-# Builds sample.c against the header and LIBDIR/libcomaltzex.a, and runs it.
+# Builds each program here against the header and LIBDIR/libcomaltzex.a, and runs it.
 set -eu
 
 if [ $# -ne 1 ]; then
@@ -11,6 +11,8 @@ here=$(cd "$(dirname "$0")" && pwd)
 build=$(mktemp -d)
 trap 'rm -rf "$build"' EXIT
 
-"${CC:-cc}" -std=c99 -Wall -Wextra -pedantic -Werror \
-    -I "$here/../../include" -o "$build/sample" "$here/sample.c" "$library"
-"$build/sample"
+for program in sample dates; do
+    "${CC:-cc}" -std=c99 -Wall -Wextra -pedantic -Werror \
+        -I "$here/../../include" -o "$build/$program" "$here/$program.c" "$library"
+    "$build/$program"
+done

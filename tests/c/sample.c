@@ -1,15 +1,14 @@
 /*
  * The C interface: header and library of one version, document 01's samples, each refusal, and
- * document 02's search for a closer.
+ * document 02's planning lines and search for a closer.
  */
+#include "check.h"
 #include "comaltzex.h"
 
 #include <stdio.h>
-#include <stdlib.h>
 #include <string.h>
 
 #define UNTOUCHED 0xABCDEF01u
-#define LENGTH(array) (sizeof(array) / sizeof((array)[0]))
 
 static const char FIRST[] = "* A\n:PROPERTIES:\n:VIN: 7\n:END:\n\nhi\n";
 static const char SECOND[] = "* A\n\n:PROPERTIES:\n:VIN: 7\n:END:\n";
@@ -26,17 +25,6 @@ static const uint32_t FIRST_TABLE[] = {
 
 static uint32_t table[COMALTZEX_RECORD_SIZE * 128];
 static char book[COMALTZEX_TEXT_LIMIT + 1];
-static unsigned checks;
-
-static void check(const char *what, size_t found, size_t wanted)
-{
-    if (found != wanted) {
-        fprintf(stderr, "c: %s: found %lu, wanted %lu\n", what,
-                (unsigned long)found, (unsigned long)wanted);
-        exit(1);
-    }
-    checks++;
-}
 
 static void clear_table(void)
 {
@@ -116,7 +104,10 @@ static void number_names(void)
     check_name(COMALTZEX_NO_DRAWER, "no drawer");
     check_name(COMALTZEX_NO_KEY, "no key");
     check_name(COMALTZEX_BAD_KEY, "bad key");
+    check_name(COMALTZEX_NO_DAY, "no calendar day");
     check_name(COMALTZEX_BAD_KEY + 1, "unknown");
+    check_name(COMALTZEX_NO_DAY - 1, "unknown");
+    check_name(COMALTZEX_NO_DAY + 1, "unknown");
 }
 
 static void first_sample(void)
@@ -153,6 +144,20 @@ static void third_sample(void)
     check_read("third sample", THIRD, 26, LENGTH(table), COMALTZEX_OK, LENGTH(kinds));
     check_field("third sample's kinds", COMALTZEX_FIELD_KIND, kinds, LENGTH(kinds));
     check_field("third sample's lines", COMALTZEX_FIELD_LINE, lines, LENGTH(lines));
+}
+
+static void planning_lines(void)
+{
+    static const char dates[] = "* A\nSCHEDULED: <2026-01-16>\n:PROPERTIES:\n:END:\n";
+    static const char words[] = "* A\nSCHEDULED: ring him back\n:PROPERTIES:\n:END:\n";
+    static const uint32_t planned[] = {COMALTZEX_DOCUMENT, COMALTZEX_HEADING, COMALTZEX_SECTION,
+                                       COMALTZEX_PLANNING, COMALTZEX_PROPERTY_DRAWER};
+    static const uint32_t unplanned[] = {COMALTZEX_DOCUMENT, COMALTZEX_HEADING, COMALTZEX_SECTION,
+                                         COMALTZEX_PARAGRAPH, COMALTZEX_DRAWER};
+    check_read("line of dates", dates, sizeof(dates) - 1, LENGTH(table), COMALTZEX_OK, 5);
+    check_field("line of dates", COMALTZEX_FIELD_KIND, planned, LENGTH(planned));
+    check_read("line of words", words, sizeof(words) - 1, LENGTH(table), COMALTZEX_OK, 5);
+    check_field("line of words", COMALTZEX_FIELD_KIND, unplanned, LENGTH(unplanned));
 }
 
 static void empty_text(void)
@@ -249,12 +254,12 @@ int main(void)
     first_sample();
     second_sample();
     third_sample();
+    planning_lines();
     empty_text();
     lookup_refusals();
     closers();
     closer_in_a_long_text();
     text_limit();
     depth_limit();
-    printf("c: %u checks passed\n", checks);
-    return 0;
+    return all_passed("sample");
 }

@@ -1,5 +1,5 @@
-//! Lists the headings of an order book with their VINs, one a line, in the
-//! `file:line: text` form that editors can jump to.
+//! Lists the headings of an order book, one a line, with their VINs and, where they
+//! have one, their deadlines, in the `file:line: text` form that editors can jump to.
 //!
 //!     orders [BOOK.org]        standard input without a file
 
@@ -9,7 +9,7 @@ use std::fs;
 use std::io::{self, Read, Write};
 use std::process::ExitCode;
 
-use comaltzex::{property, Kind, LookupRefusal, Record, Refusal, Table};
+use comaltzex::{planning, property, Kind, LookupRefusal, Record, Refusal, Table};
 
 fn main() -> ExitCode {
     match run() {
@@ -50,8 +50,9 @@ fn list(name: &str, book: &[u8]) -> Result<String, Refusal> {
     let mut list = String::new();
     for heading in headings {
         let line = heading.line + 1; // an editor counts from 1
-        let (title, vin) = (title(book, &heading), vin(book, heading.span.start));
-        list += &format!("{name}:{line}: {title}  {vin}\n");
+        let (title, start) = (title(book, &heading), heading.span.start);
+        let (vin, deadline) = (vin(book, start), deadline(book, start));
+        list += &format!("{name}:{line}: {title}  {vin}{deadline}\n");
     }
     Ok(list)
 }
@@ -74,6 +75,16 @@ fn vin(book: &[u8], heading: usize) -> String {
     }
 }
 
+/// The deadline of the heading that starts at this byte, after two spaces; nothing if
+/// it has none.
+fn deadline(book: &[u8], heading: usize) -> String {
+    match planning(book, heading).map(|plan| plan.deadline) {
+        Ok(Some(deadline)) => format!("  deadline {deadline}"),
+        Ok(None) => String::new(),
+        Err(refusal) => format!("  {refusal}"),
+    }
+}
+
 #[cfg(test)]
 mod tests {
     use super::*;
@@ -90,6 +101,21 @@ mod tests {
             b.org:6: Its notes  no property drawer\n\
             b.org:7: Two  no VIN in its drawer\n\
             b.org:11: Three  empty VIN in its drawer\n";
+        assert_eq!(list("b.org", book).unwrap(), wanted);
+    }
+
+    #[test]
+    fn deadlines_stand_last() {
+        let book = b"* One\nDEADLINE: <2026-11-20 Fri> CLOSED: [2026-11-16]\n\
+            :PROPERTIES:\n:VIN: 7\n:END:\n\
+            * Two\nSCHEDULED: <2026-11-20>\n\
+            * Three\nDEADLINE: next week\n:PROPERTIES:\n:VIN: 8\n:END:\n\
+            * Four\n  deadline: <2026-11-20 9:30 -3d>";
+        let wanted = "\
+            b.org:1: One  VIN 7  deadline <2026-11-20>\n\
+            b.org:6: Two  no property drawer\n\
+            b.org:8: Three  no property drawer\n\
+            b.org:13: Four  no property drawer  deadline <2026-11-20 09:30 -3d>\n";
         assert_eq!(list("b.org", book).unwrap(), wanted);
     }
 

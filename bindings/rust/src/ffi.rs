@@ -3,7 +3,7 @@
 use crate::RECORD_SIZE;
 
 /// `COMALTZEX_VERSION` of the header.
-const VERSION: u32 = 3;
+const VERSION: u32 = 4;
 
 /// The numbers of an answer, as in `comaltzex.h`.
 pub(crate) mod number {
@@ -15,6 +15,18 @@ pub(crate) mod number {
     pub(crate) const NO_DRAWER: u32 = 5;
     pub(crate) const NO_KEY: u32 = 6;
     pub(crate) const BAD_KEY: u32 = 7;
+    pub(crate) const NO_DAY: u32 = 11;
+}
+
+/// The kinds of a timestamp, as in `comaltzex.h`.
+pub(crate) mod stamp_kind {
+    pub(crate) const NONE: u32 = 0;
+    pub(crate) const ACTIVE: u32 = 1;
+    pub(crate) const ACTIVE_TIMES: u32 = 2;
+    pub(crate) const ACTIVE_DATES: u32 = 3;
+    pub(crate) const INACTIVE: u32 = 4;
+    pub(crate) const INACTIVE_TIMES: u32 = 5;
+    pub(crate) const INACTIVE_DATES: u32 = 6;
 }
 
 /// `comaltzex_reading` of the header.
@@ -41,6 +53,66 @@ pub(crate) struct Closer {
     pub(crate) compared: usize,
 }
 
+/// `comaltzex_date` of the header.
+#[derive(Clone, Copy)]
+#[repr(C)]
+pub(crate) struct Date {
+    pub(crate) year: u32,
+    pub(crate) month: u32,
+    pub(crate) day: u32,
+}
+
+/// `comaltzex_moment` of the header.
+#[repr(C)]
+pub(crate) struct Moment {
+    pub(crate) date: Date,
+    pub(crate) has_time: u32,
+    pub(crate) hour: u32,
+    pub(crate) minute: u32,
+    pub(crate) repeat_mark: u32,
+    pub(crate) every: u32,
+    pub(crate) every_unit: u32,
+    pub(crate) within: u32,
+    pub(crate) within_unit: u32,
+    pub(crate) delay_mark: u32,
+    pub(crate) delay: u32,
+    pub(crate) delay_unit: u32,
+    pub(crate) delay_first: u32,
+}
+
+/// `comaltzex_stamp` of the header.
+#[repr(C)]
+pub(crate) struct Stamp {
+    pub(crate) kind: u32,
+    pub(crate) first: Moment,
+    pub(crate) second: Moment,
+}
+
+/// `comaltzex_found_stamp` of the header.
+#[repr(C)]
+pub(crate) struct FoundStamp {
+    pub(crate) kind: u32,
+    pub(crate) end: usize,
+    pub(crate) first: Moment,
+    pub(crate) second: Moment,
+}
+
+/// `comaltzex_plan` of the header.
+#[repr(C)]
+pub(crate) struct Plan {
+    pub(crate) number: u32,
+    pub(crate) closed: Stamp,
+    pub(crate) deadline: Stamp,
+    pub(crate) scheduled: Stamp,
+}
+
+/// `comaltzex_days` of the header.
+#[repr(C)]
+pub(crate) struct Days {
+    pub(crate) number: u32,
+    pub(crate) days: i32,
+}
+
 extern "C" {
     fn comaltzex_read(
         text: *const u8,
@@ -58,6 +130,19 @@ extern "C" {
     ) -> Part;
 
     fn comaltzex_find_closer(text: *const u8, text_len: usize, at: usize, end: usize) -> Closer;
+
+    fn comaltzex_timestamp(text: *const u8, text_len: usize, at: usize) -> FoundStamp;
+
+    fn comaltzex_planning(text: *const u8, text_len: usize, at: usize) -> Plan;
+
+    fn comaltzex_days_between(
+        year: u32,
+        month: u32,
+        day: u32,
+        second_year: u32,
+        second_month: u32,
+        second_day: u32,
+    ) -> Days;
 
     fn comaltzex_record_size() -> usize;
 
@@ -86,6 +171,23 @@ pub(crate) fn find_closer(text: &[u8], at: usize, end: usize) -> Closer {
     unsafe { comaltzex_find_closer(text.as_ptr(), text.len(), at, end) }
 }
 
+pub(crate) fn timestamp(text: &[u8], at: usize) -> FoundStamp {
+    // SAFETY: as in `lookup`.
+    unsafe { comaltzex_timestamp(text.as_ptr(), text.len(), at) }
+}
+
+pub(crate) fn planning(text: &[u8], at: usize) -> Plan {
+    // SAFETY: as in `lookup`.
+    unsafe { comaltzex_planning(text.as_ptr(), text.len(), at) }
+}
+
+pub(crate) fn days_between(first: Date, second: Date) -> Days {
+    let (year, month, day) = (first.year, first.month, first.day);
+    // SAFETY: the function takes numbers, any numbers, and touches no memory of the
+    // caller's.
+    unsafe { comaltzex_days_between(year, month, day, second.year, second.month, second.day) }
+}
+
 fn record_size() -> usize {
     // SAFETY: the function takes nothing and touches no memory of the caller's.
     unsafe { comaltzex_record_size() }
@@ -98,11 +200,23 @@ fn version() -> u32 {
 
 #[cfg(test)]
 mod tests {
+    use std::mem::size_of;
+
     use super::*;
 
     #[test]
     fn the_library_is_the_one_that_is_declared() {
         assert_eq!(version(), VERSION);
         assert_eq!(record_size(), RECORD_SIZE);
+    }
+
+    #[test]
+    fn structs_have_the_sizes_of_c() {
+        assert_eq!(size_of::<Date>(), 12);
+        assert_eq!(size_of::<Moment>(), 60);
+        assert_eq!(size_of::<Stamp>(), 124);
+        assert_eq!(size_of::<FoundStamp>(), 136);
+        assert_eq!(size_of::<Plan>(), 376);
+        assert_eq!(size_of::<Days>(), 8);
     }
 }

@@ -31,24 +31,34 @@
 //! ```
 //!
 //! [`read`] does the same into a table that the caller lends, and allocates
-//! nothing. [`find_closer`] finds the line that closes one block or drawer. A call
-//! needs up to 96 KB of stack.
+//! nothing. [`planning`] gives the dates of one heading's planning line,
+//! [`timestamp`] reads one timestamp, and [`days_between`] counts the days from one
+//! date to another. [`find_closer`] finds the line that closes one block or drawer. A
+//! call needs up to 96 KB of stack.
 
 #![deny(unsafe_code, unsafe_op_in_unsafe_fn, missing_docs)]
 
 mod closer;
+mod dates;
 #[allow(unsafe_code)]
 mod ffi;
 mod lookup;
+mod planning;
 mod record;
 mod refusal;
+mod repeats;
 mod table;
+mod timestamp;
 
 pub use closer::{find_closer, CloserSearch};
+pub use dates::{days_between, Date};
 pub use lookup::{lookup, property};
+pub use planning::{planning, Planning};
 pub use record::{Kind, Record, Records};
-pub use refusal::{LookupRefusal, Refusal};
+pub use refusal::{DateRefusal, LookupRefusal, PlanningRefusal, Refusal};
+pub use repeats::{Delay, Interval, Mark, Repeater, Repeats, Unit};
 pub use table::{read, Table};
+pub use timestamp::{timestamp, FoundTimestamp, Moment, Time, Timestamp};
 
 /// The longest text that is read, in bytes.
 pub const TEXT_LIMIT: usize = 65_536;

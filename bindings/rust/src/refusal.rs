@@ -4,6 +4,7 @@ use std::fmt::{self, Display, Formatter};
 use crate::ffi::number;
 
 const TOO_LONG: &str = "the text is longer than 65,536 bytes";
+const NO_HEADING: &str = "no heading starts at this byte";
 
 /// Why a text was not read. The table is then as it was.
 #[derive(Clone, Copy, Debug, PartialEq, Eq, Hash)]
@@ -80,7 +81,7 @@ impl Display for LookupRefusal {
     fn fmt(&self, f: &mut Formatter<'_>) -> fmt::Result {
         f.write_str(match self {
             LookupRefusal::TooLong => TOO_LONG,
-            LookupRefusal::NoHeading => "no heading starts at this byte",
+            LookupRefusal::NoHeading => NO_HEADING,
             LookupRefusal::NoDrawer => "this heading has no property drawer",
             LookupRefusal::NoKey => "this heading's property drawer has no line with this key",
             LookupRefusal::BadKey => {
@@ -91,3 +92,61 @@ impl Display for LookupRefusal {
 }
 
 impl Error for LookupRefusal {}
+
+/// Why the planning line of a heading was not read.
+#[derive(Clone, Copy, Debug, PartialEq, Eq, Hash)]
+#[non_exhaustive]
+pub enum PlanningRefusal {
+    /// The text is longer than [`TEXT_LIMIT`](crate::TEXT_LIMIT).
+    TooLong,
+    /// No heading line starts at that byte.
+    NoHeading,
+}
+
+impl PlanningRefusal {
+    /// The number of this answer in the C interface.
+    pub fn number(self) -> u32 {
+        match self {
+            PlanningRefusal::TooLong => number::TOO_LONG,
+            PlanningRefusal::NoHeading => number::NO_HEADING,
+        }
+    }
+}
+
+impl Display for PlanningRefusal {
+    fn fmt(&self, f: &mut Formatter<'_>) -> fmt::Result {
+        f.write_str(match self {
+            PlanningRefusal::TooLong => TOO_LONG,
+            PlanningRefusal::NoHeading => NO_HEADING,
+        })
+    }
+}
+
+impl Error for PlanningRefusal {}
+
+/// Why the days between two dates were not counted.
+#[derive(Clone, Copy, Debug, PartialEq, Eq, Hash)]
+#[non_exhaustive]
+pub enum DateRefusal {
+    /// One of the dates is no calendar day of years 1 to 9999.
+    NoDay,
+}
+
+impl DateRefusal {
+    /// The number of this answer in the C interface.
+    pub fn number(self) -> u32 {
+        match self {
+            DateRefusal::NoDay => number::NO_DAY,
+        }
+    }
+}
+
+impl Display for DateRefusal {
+    fn fmt(&self, f: &mut Formatter<'_>) -> fmt::Result {
+        f.write_str(match self {
+            DateRefusal::NoDay => "no calendar day of years 1 to 9999",
+        })
+    }
+}
+
+impl Error for DateRefusal {}

@@ -1,20 +1,25 @@
 //! A stack of 96 KB is enough for every text: the deepest nesting, more of it than is read, and texts of the greatest length.
 
-use comaltzex::{find_closer, lookup, read, Refusal, DEPTH_LIMIT, RECORD_SIZE, TEXT_LIMIT};
+use comaltzex::{
+    find_closer, lookup, planning, read, timestamp, Refusal, DEPTH_LIMIT, RECORD_SIZE, TEXT_LIMIT,
+};
 use std::thread;
 
 const STACK: usize = 96 * 1024;
 
-/// The answer of a reading call that has only a small stack.
-fn read_on_a_small_stack(text: Vec<u8>) -> Result<usize, Refusal> {
-    let mut table = vec![0; RECORD_SIZE * (TEXT_LIMIT + 3)];
-    let reading = move || read(&text, &mut table).map(|records| records.count());
+/// The answer of a call that has only a small stack.
+fn on_a_small_stack<T: Send + 'static>(call: impl FnOnce() -> T + Send + 'static) -> T {
     thread::Builder::new()
         .stack_size(STACK)
-        .spawn(reading)
+        .spawn(call)
         .unwrap()
         .join()
         .unwrap()
+}
+
+fn read_on_a_small_stack(text: Vec<u8>) -> Result<usize, Refusal> {
+    let mut table = vec![0; RECORD_SIZE * (TEXT_LIMIT + 3)];
+    on_a_small_stack(move || read(&text, &mut table).map(|records| records.count()))
 }
 
 /// Blocks in one another, each of another name, with a drawer in the innermost.
@@ -70,23 +75,33 @@ fn long_texts() {
 
 #[test]
 fn long_lookup() {
-    let looking = || lookup(&filled("* a\n:properties:\n:a:\n:end:\n"), 0, b"b").is_err();
-    assert!(thread::Builder::new()
-        .stack_size(STACK)
-        .spawn(looking)
-        .unwrap()
-        .join()
-        .unwrap());
+    let text = filled("* a\n:properties:\n:a:\n:end:\n");
+    assert!(on_a_small_stack(move || lookup(&text, 0, b"b")).is_err());
 }
 
 #[test]
 fn long_search() {
-    let searching = || find_closer(&filled(":a:\n"), 0, TEXT_LIMIT).compared;
-    let compared = thread::Builder::new()
-        .stack_size(STACK)
-        .spawn(searching)
-        .unwrap()
-        .join()
-        .unwrap();
-    assert_eq!(compared, 16383);
+    let text = filled(":a:\n");
+    let search = on_a_small_stack(move || find_closer(&text, 0, TEXT_LIMIT));
+    assert_eq!(search.compared, 16383);
+}
+
+#[test]
+fn long_timestamp() {
+    let text = format!("<2026-11-16{}Mon>", " ".repeat(TEXT_LIMIT)).into_bytes();
+    let end = text.len();
+    let found = on_a_small_stack(move || timestamp(&text, 0)).unwrap();
+    assert_eq!(found.span, 0..end);
+}
+
+#[test]
+fn long_planning_line() {
+    let mut text = filled("* a\n");
+    text[4..].fill(b' ');
+    let part = b"DEADLINE: <2026-11-16 Mon 9:00 +1w -3d>--<2026-11-17> ";
+    for chunk in text[4..].chunks_exact_mut(part.len()) {
+        chunk.copy_from_slice(part);
+    }
+    let plan = on_a_small_stack(move || planning(&text, 0)).unwrap();
+    assert!(plan.deadline.is_some());
 }

@@ -1,1 +1,3 @@
+pub mod Stamps
 pub mod Numbers
+pub mod Pinned

@@ -1,7 +1,10 @@
 -- What the C interface promises: the promises of the entry points, in the numbers of documents 01 and 02.
 use mathlib.Core.Path.{_≡_}
 use mathlib.Core.List.{List}
-use Prim.Native.Nat.{ℕ}
+use Prim.Native.Nat.{ℕ, _-_}
+use lib.Dec.{eqb}
+use lib.ListN.{length}
+use Rattle.text.specs.Parts.{part}
 use Rattle.reading.specs.declared.answer.Answer.{Answer}
 use Rattle.reading.specs.Answers.{number, count}
 use Rattle.reading.specs.Promises.{Settled}
@@ -10,13 +13,25 @@ use Rattle.lookup.specs.Promises.{Tied}
 use Rattle.rules.specs.Closers.{searchFrom}
 use Rattle.rules.specs.declared.closer.Closer.{Closer}
 use Rattle.rules.specs.declared.closer.Closer.the-variants.{At, Nothing}
+use Rattle.dates.specs.Days as Days
+use Rattle.dates.specs.Promises.{Counted}
+use Rattle.dates.specs.Reads.{pick}
+use Rattle.dates.specs.Stamps.{timestamp}
+use Rattle.dates.specs.declared.stamp.Date.{Date}
+use Rattle.dates.specs.declared.stamp.Timestamp.{Timestamp}
+use Rattle.dates.specs.declared.planning.Planning.{Planning}
+use Rattle.lookup.specs.Planning as Planned
+use Rattle.comaltzex.specs.Stamps.{stampNumbers}
+use Rattle.comaltzex.specs.declared.DayCount.{DayCount}
+use Rattle.comaltzex.specs.declared.FoundStamp.{FoundStamp}
+use Rattle.comaltzex.specs.declared.Plan.{Plan}
 use Rattle.comaltzex.specs.declared.Reading.{Reading}
 use Rattle.comaltzex.specs.declared.Value.{Value}
 use Rattle.comaltzex.specs.declared.ClosingLine.{ClosingLine}
 
 -- the version of the interface: another one whenever an answer, the record's width or a function's signature changes, or a function is added
 abbrev pub version : ℕ
-version = 3
+version = 4
 
 -- a closer in numbers: whether there is one, and its line's ends; all 0 where there is none
 abbrev pub foundNumber : Closer → ℕ
@@ -51,3 +66,27 @@ pub record SearchesAs (s : List ℕ) (p e : ℕ) (r : ClosingLine) : Type 0 wher
   pub start : r .start ≡ closerStart (searchFrom s p e .closer)
   pub end : r .end ≡ closerEnd (searchFrom s p e .closer)
   pub compared : r .compared ≡ searchFrom s p e .compared
+
+-- the days from a date to a second one
+pub record CountsAs (a b : Date) (r : DayCount) : Type 0 where
+  pub number : r .number ≡ Days.number a b
+  pub days : r .days ≡ Days.days a b
+  pub counted : Counted
+
+-- a timestamp with the byte after it, which is 0 for none
+abbrev pub foundStamp : Timestamp → ℕ → FoundStamp
+foundStamp t e =
+    let n = stampNumbers t in
+    record { kind = n .kind; end = pick (eqb (n .kind) 0) 0 e; first = n .first; second = n .second }
+
+-- the timestamp that starts at byte p of text s
+abbrev pub stampAt : List ℕ → ℕ → FoundStamp
+stampAt s p = let t = timestamp (part s p (length s)) in foundStamp (t .0) (length s - length (t .1))
+
+-- the stamps of a planning line's three keywords
+abbrev pub plan : ℕ → Planning → Plan
+plan n p = record { number = n; closed = stampNumbers (p .closed); deadline = stampNumbers (p .deadline); scheduled = stampNumbers (p .scheduled) }
+
+-- those of the heading line that starts at byte p of text s
+abbrev pub planAt : List ℕ → ℕ → Plan
+planAt s p = let a = Planned.planning s p in plan (Planned.number a) (Planned.stamps a)

@@ -1,9 +1,25 @@
 // The C interface: numbers in, numbers out. A slice is passed as a pointer and then a length.
 ghost use mathlib.Core.Path.{_≡_};
+ghost use Rattle.text.specs.Number;
+ghost use Rattle.dates.specs.Stamps.{dateOf};
+ghost use Rattle.dates.specs.Planning.{noStamps};
 ghost use Rattle.table.specs.Records.{recordSize};
-ghost use Rattle.comaltzex.specs.Numbers.{ReadsAs, LooksUpAs, SearchesAs, version};
+ghost use Rattle.comaltzex.specs.Numbers.{ReadsAs, LooksUpAs, SearchesAs, CountsAs, foundStamp, stampAt, plan, planAt, version};
+
+pub mod stamp;
+
+use crate::stamp::MomentNumbers;
+use crate::stamp::Stamp;
+use crate::stamp::stamp_numbers;
+use dates::days::days_between;
+use dates::planning::Planning;
+use dates::read::read_timestamp;
+use dates::stamp::Date;
+use dates::stamp::Timestamp;
 use lookup::lookup::Answer as Lookup;
 use lookup::lookup::lookup;
+use lookup::planning::Answer as Planned;
+use lookup::planning::planning;
 use reading::answer::Answer;
 use reading::read::read;
 use rules::closer::Closer;
@@ -12,7 +28,7 @@ use table::record;
 use text::number;
 
 // The version of this interface, as specs/Numbers has it.
-const VERSION: u32 = 3;
+const VERSION: u32 = 4;
 
 // Both ends of a line that was not found.
 const NOWHERE: usize = 0;
@@ -118,6 +134,127 @@ pub extern "C" fn comaltzex_find_closer(text: &[u8], at: usize, end: usize) -> C
             end: NOWHERE,
             compared: search.compared,
         },
+    }
+}
+
+// The number of a day count's answer, and the days.
+#[repr(C)]
+pub struct DayCount {
+    pub number: u32,
+    pub days: i32,
+}
+
+// Days from a date to a second one.
+#[no_mangle]
+pub extern "C" fn comaltzex_days_between(
+    year: u32,
+    month: u32,
+    day: u32,
+    year2: u32,
+    month2: u32,
+    day2: u32,
+) -> DayCount
+    ensures { λ r. ⌜ CountsAs (dateOf year month day) (dateOf year2 month2 day2) r ⌝ }
+{
+    let first = Date {
+        year: year,
+        month: month,
+        day: day,
+    };
+    let second = Date {
+        year: year2,
+        month: month2,
+        day: day2,
+    };
+    let days = days_between(first, second);
+    DayCount {
+        number: days.number,
+        days: days.days,
+    }
+}
+
+// A timestamp's kind, 0 for none, the byte after it, and its two dates.
+#[repr(C)]
+pub struct FoundStamp {
+    pub kind: u32,
+    pub end: usize,
+    pub first: MomentNumbers,
+    pub second: MomentNumbers,
+}
+
+// The timestamp that starts at a byte.
+#[no_mangle]
+pub extern "C" fn comaltzex_timestamp(text: &[u8], at: usize) -> FoundStamp
+    ensures { λ r. ⌜ r ≡ stampAt (now (text .entry)) at ⌝ }
+{
+    let to = text.len();
+    if to < at {
+        return found_stamp(Timestamp::Nothing, 0);
+    }
+    let stamp = read_timestamp(text, at, to);
+    let timestamp = stamp.timestamp;
+    found_stamp(timestamp, stamp.end)
+}
+
+// A timestamp in numbers, with the byte after it; 0 for none.
+fn found_stamp(timestamp: Timestamp, end: usize) -> FoundStamp
+    ensures { λ r. ⌜ r ≡ foundStamp timestamp end ⌝ }
+{
+    let stamp = stamp_numbers(timestamp);
+    let first = stamp.first;
+    let second = stamp.second;
+    FoundStamp {
+        kind: stamp.kind,
+        end: if stamp.kind == 0 { 0 } else { end },
+        first: first,
+        second: second,
+    }
+}
+
+// The number of a planning call's answer, and the stamps of the three keywords.
+#[repr(C)]
+pub struct Plan {
+    pub number: u32,
+    pub closed: Stamp,
+    pub deadline: Stamp,
+    pub scheduled: Stamp,
+}
+
+// The stamps of the planning line of the heading line that starts at a byte.
+#[no_mangle]
+pub extern "C" fn comaltzex_planning(text: &[u8], at: usize) -> Plan
+    ensures { λ r. ⌜ r ≡ planAt (now (text .entry)) at ⌝ }
+{
+    match planning(text, at) {
+        Planned::Found(stamps) => planned(stamps),
+        Planned::TooLong => no_plan(number::TOO_LONG),
+        Planned::NoHeading => no_plan(number::NO_HEADING),
+    }
+}
+
+fn planned(stamps: Planning) -> Plan
+    ensures { λ r. ⌜ r ≡ plan Number.done stamps ⌝ }
+{
+    let closed = stamps.closed;
+    let deadline = stamps.deadline;
+    let scheduled = stamps.scheduled;
+    Plan {
+        number: number::DONE,
+        closed: stamp_numbers(closed),
+        deadline: stamp_numbers(deadline),
+        scheduled: stamp_numbers(scheduled),
+    }
+}
+
+// A refusal: no stamps.
+fn no_plan(number: u32) -> Plan
+    ensures { λ r. ⌜ r ≡ plan number noStamps ⌝ }
+{
+    Plan {
+        number: number,
+        closed: stamp_numbers(Timestamp::Nothing),
+        deadline: stamp_numbers(Timestamp::Nothing),
+        scheduled: stamp_numbers(Timestamp::Nothing),
     }
 }
 

@@ -2,3 +2,4 @@ pub mod Keys
 pub mod Stages
 pub mod Finding
 pub mod Lookup
+pub mod Planning

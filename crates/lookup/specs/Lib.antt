@@ -1,4 +1,5 @@
 pub mod Stages
 pub mod Lookup
+pub mod Planning
 pub mod Promises
 pub mod Pinned

@@ -9,16 +9,13 @@ use crate::rule::Element;
 use crate::rule::Rule;
 use crate::scope::Scope;
 use text::line::LineSpan;
-use text::word::begins_with;
 
-// Whether a line's body starts with a planning word.  [01 rule 1]
+// Whether a line's body is dates all through.  [01 rule 1, 02 order 1]
 pub fn is_planning(text: &[u8], line: LineSpan, to: usize) -> bool
     requires { ⌜ LineOf (now text) line to ⌝ }
     ensures { λ r. ⌜ r ≡ isPlanning (lineIn (now (text .entry)) (line .start) to) ⌝ }
 {
-    begins_with(text, line.from, line.to, b"closed:")
-        || begins_with(text, line.from, line.to, b"deadline:")
-        || begins_with(text, line.from, line.to, b"scheduled:")
+    dates::planning::is_planning(text, line.from, line.to)
 }
 
 // A planning line.  [01 rule 1]

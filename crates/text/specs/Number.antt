@@ -1,4 +1,4 @@
--- The numbers of an answer  [01 "Numbers of an answer"].
+-- The numbers of an answer  [01 "Numbers of an answer", 02 order 1].
 use Prim.Native.Nat.{ℕ}
 
 abbrev pub done : ℕ
@@ -24,3 +24,6 @@ noKey = 6
 
 abbrev pub badKey : ℕ
 badKey = 7
+
+abbrev pub noDay : ℕ
+noDay = 11

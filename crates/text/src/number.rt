@@ -14,3 +14,5 @@ pub const NO_DRAWER: u32 = 5;
 pub const NO_KEY: u32 = 6;
 
 pub const BAD_KEY: u32 = 7;
+
+pub const NO_DAY: u32 = 11;

@@ -3,10 +3,13 @@
 use std::fs;
 use std::path::Path;
 
-use plain_reader::NUMBERS_OF_A_RECORD;
+use plain_reader::{Date, NO_STAMP, NUMBERS_OF_A_RECORD};
 
 use crate::escape::unescape;
-use crate::subject::{CloserAnswer, LookupAnswer, ReadAnswer};
+use crate::subject::{
+    CloserAnswer, DaysAnswer, LookupAnswer, PlanningAnswer, ReadAnswer, TimestampAnswer,
+};
+use crate::written::{plan, stamp};
 
 /// The numbers of a record.
 pub type Numbers = [u32; NUMBERS_OF_A_RECORD];
@@ -51,6 +54,21 @@ pub enum Expectation {
         at: usize,
         end: usize,
         answer: CloserAnswer,
+    },
+    Timestamp {
+        /// A text of its own, in place of the case's.
+        text: Option<Vec<u8>>,
+        at: usize,
+        answer: TimestampAnswer,
+    },
+    Planning {
+        at: usize,
+        answer: Box<PlanningAnswer>,
+    },
+    Days {
+        first: Date,
+        second: Date,
+        answer: DaysAnswer,
     },
 }
 
@@ -212,23 +230,83 @@ fn expectation(word: &str, rest: &str) -> Result<Expectation, String> {
             }
         }
         "lookup" => lookup_expectation(rest)?,
-        "closer" => {
-            let (call, answer) = rest.split_once(" -> ").ok_or("closer AT END -> ANSWER")?;
-            let [at, end] = words(call)?;
-            let [found, closer_start, closer_end, compared] = words(answer)?;
-            Expectation::Closer {
-                at: number(at)?,
-                end: number(end)?,
-                answer: (
-                    number(found)?,
-                    number(closer_start)?,
-                    number(closer_end)?,
-                    number(compared)?,
-                ),
-            }
-        }
+        "closer" => closer_expectation(rest)?,
+        "stamp" => timestamp_expectation(rest)?,
+        "planning" => planning_expectation(rest)?,
+        "days" => days_expectation(rest)?,
         _ => return Err(format!("unknown word {word:?}")),
     })
+}
+
+fn closer_expectation(rest: &str) -> Result<Expectation, String> {
+    let (call, answer) = rest.split_once(" -> ").ok_or("closer AT END -> ANSWER")?;
+    let [at, end] = words(call)?;
+    let [found, closer_start, closer_end, compared] = words(answer)?;
+    Ok(Expectation::Closer {
+        at: number(at)?,
+        end: number(end)?,
+        answer: (
+            number(found)?,
+            number(closer_start)?,
+            number(closer_end)?,
+            number(compared)?,
+        ),
+    })
+}
+
+fn timestamp_expectation(rest: &str) -> Result<Expectation, String> {
+    let form = "stamp AT or \"TEXT\" -> none, or END: STAMP";
+    let (place, answer) = rest.split_once(" -> ").ok_or(form)?;
+    let (text, at) = if place.starts_with('"') {
+        (Some(quoted(place)?), 0)
+    } else {
+        (None, number(place)?)
+    };
+    let answer = match answer {
+        "none" => (0, NO_STAMP),
+        _ => {
+            let (end, written) = answer.split_once(": ").ok_or(form)?;
+            (number(end)?, stamp(written)?)
+        }
+    };
+    Ok(Expectation::Timestamp { text, at, answer })
+}
+
+fn planning_expectation(rest: &str) -> Result<Expectation, String> {
+    let form = "planning AT -> NUMBER, or NUMBER: KEYWORD STAMP; ..";
+    let (at, answer) = rest.split_once(" -> ").ok_or(form)?;
+    let answer = match answer.split_once(": ") {
+        Some((given, written)) => (number(given)?, plan(written)?),
+        None => (number(answer)?, [NO_STAMP; 3]),
+    };
+    Ok(Expectation::Planning {
+        at: number(at)?,
+        answer: Box::new(answer),
+    })
+}
+
+fn days_expectation(rest: &str) -> Result<Expectation, String> {
+    let (call, answer) = rest.split_once(" -> ").ok_or("days DATE DATE -> ANSWER")?;
+    let [first, second] = words(call)?;
+    let [given, days] = words(answer)?;
+    Ok(Expectation::Days {
+        first: date(first)?,
+        second: date(second)?,
+        answer: (number(given)?, number(days)?),
+    })
+}
+
+/// `YEAR-MONTH-DAY`, any three numbers.
+fn date(word: &str) -> Result<Date, String> {
+    let fields: Vec<&str> = word.split('-').collect();
+    match fields[..] {
+        [year, month, day] => Ok(Date {
+            year: number(year)?,
+            month: number(month)?,
+            day: number(day)?,
+        }),
+        _ => Err(format!("{word:?} is no date")),
+    }
 }
 
 fn lookup_expectation(rest: &str) -> Result<Expectation, String> {
@@ -270,7 +348,8 @@ fn words<const COUNT: usize>(line: &str) -> Result<[&str; COUNT], String> {
         .map_err(|_| format!("{COUNT} words expected in {line:?}"))
 }
 
-fn number<N: std::str::FromStr>(word: &str) -> Result<N, String> {
+/// The number that the word is.
+pub fn number<N: std::str::FromStr>(word: &str) -> Result<N, String> {
     word.parse().map_err(|_| format!("{word:?} is no number"))
 }
 

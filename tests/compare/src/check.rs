@@ -2,6 +2,7 @@
 
 use plain_reader::{Reading, Record, NUMBERS_OF_A_RECORD};
 
+use crate::dates::{check_dates, DateTally};
 use crate::escape::escape;
 use crate::proper::check_proper;
 use crate::random::Random;
@@ -19,13 +20,14 @@ pub const SMALL: usize = 400;
 const NODE_PROPERTY: u32 = 6;
 
 /// How many answers of each number and records of each kind the plain reader gave, and how many of
-/// its searches for closers met what.
+/// its searches for closers and its answers about dates met what.
 #[derive(Default)]
 pub struct Tally {
     pub readings: [usize; 4],
     pub lookups: [usize; 8],
     pub kinds: [usize; 17],
     pub searches: Met,
+    pub dates: DateTally,
 }
 
 /// Compares the answers on `text`; the first difference is told in words.
@@ -44,7 +46,8 @@ pub fn check(text: &[u8], random: &mut Random, tally: &mut Tally) -> Result<(), 
     let keys = property_keys(text, records);
     check_lookups_at_headings(text, &keys, random, tally)?;
     check_lookups_elsewhere(text, random, tally)?;
-    check_searches(text, records, random, &mut tally.searches)
+    check_searches(text, records, random, &mut tally.searches)?;
+    check_dates(text, random, &mut tally.dates)
 }
 
 /// The table; none of a refused reading.
@@ -168,7 +171,7 @@ fn check_lookups_elsewhere(
 }
 
 /// Where a line begins with a star.
-fn star_places(text: &[u8]) -> impl Iterator<Item = usize> + '_ {
+pub fn star_places(text: &[u8]) -> impl Iterator<Item = usize> + '_ {
     let starts_line = |at: usize| at == 0 || text[at - 1] == 10;
     (0..text.len()).filter(move |at| text[*at] == b'*' && starts_line(*at))
 }

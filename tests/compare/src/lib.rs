@@ -3,12 +3,15 @@
 
 pub mod case;
 pub mod check;
+pub mod dates;
 pub mod escape;
 pub mod library;
 pub mod proper;
 pub mod random;
 pub mod run;
 pub mod searches;
+pub mod stamps;
 pub mod subject;
 pub mod texts;
 pub mod words;
+pub mod written;

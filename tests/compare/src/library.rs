@@ -1,5 +1,7 @@
 //! The library under test, through its C ABI. Nothing else here knows that ABI.
 
+use plain_reader::{Date, MomentNumbers, StampNumbers, NO_STAMP};
+
 #[repr(C)]
 struct ReadAnswer {
     number: u32,
@@ -21,6 +23,28 @@ struct FindCloserAnswer {
     compared: usize,
 }
 
+#[repr(C)]
+struct FoundStamp {
+    kind: u32,
+    end: usize,
+    first: MomentNumbers,
+    second: MomentNumbers,
+}
+
+#[repr(C)]
+struct Plan {
+    number: u32,
+    closed: StampNumbers,
+    deadline: StampNumbers,
+    scheduled: StampNumbers,
+}
+
+#[repr(C)]
+struct Days {
+    number: u32,
+    days: i32,
+}
+
 #[link(name = "comaltzex", kind = "static")]
 extern "C" {
     /// `room` is how many numbers the table holds.
@@ -40,6 +64,19 @@ extern "C" {
         at: usize,
         end: usize,
     ) -> FindCloserAnswer;
+
+    fn comaltzex_timestamp(text: *const u8, len: usize, at: usize) -> FoundStamp;
+
+    fn comaltzex_planning(text: *const u8, len: usize, at: usize) -> Plan;
+
+    fn comaltzex_days_between(
+        year: u32,
+        month: u32,
+        day: u32,
+        second_year: u32,
+        second_month: u32,
+        second_day: u32,
+    ) -> Days;
 }
 
 /// Reads `text` into `table`; gives the answer's number and count.
@@ -64,4 +101,38 @@ pub fn find_closer(text: &[u8], at: usize, end: usize) -> (u32, usize, usize, us
     // SAFETY: the pointer comes with the length of the slice it belongs to.
     let answer = unsafe { comaltzex_find_closer(text.as_ptr(), text.len(), at, end) };
     (answer.found, answer.start, answer.end, answer.compared)
+}
+
+/// The timestamp at byte `at`: its end and its numbers.
+pub fn timestamp(text: &[u8], at: usize) -> (usize, StampNumbers) {
+    // SAFETY: the pointer comes with the length of the slice it belongs to.
+    let found = unsafe { comaltzex_timestamp(text.as_ptr(), text.len(), at) };
+    let mut numbers = NO_STAMP;
+    numbers[0] = found.kind;
+    numbers[1..16].copy_from_slice(&found.first);
+    numbers[16..].copy_from_slice(&found.second);
+    (found.end, numbers)
+}
+
+/// The planning of the heading at byte `at`: the answer's number and the stamps.
+pub fn planning(text: &[u8], at: usize) -> (u32, [StampNumbers; 3]) {
+    // SAFETY: the pointer comes with the length of the slice it belongs to.
+    let plan = unsafe { comaltzex_planning(text.as_ptr(), text.len(), at) };
+    (plan.number, [plan.closed, plan.deadline, plan.scheduled])
+}
+
+/// The days from the first date to the second, after the answer's number.
+pub fn days_between(first: Date, second: Date) -> (u32, i32) {
+    // SAFETY: the call takes and gives numbers only.
+    let answer = unsafe {
+        comaltzex_days_between(
+            first.year,
+            first.month,
+            first.day,
+            second.year,
+            second.month,
+            second.day,
+        )
+    };
+    (answer.number, answer.days)
 }

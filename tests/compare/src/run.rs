@@ -3,11 +3,14 @@
 use std::cell::OnceCell;
 use std::fmt::Debug;
 
-use plain_reader::NUMBERS_OF_A_RECORD;
+use plain_reader::{Date, NUMBERS_OF_A_RECORD};
 
 use crate::case::{Case, Expectation, ExpectedRecord, Numbers};
 use crate::escape::escape;
-use crate::subject::{fresh_table, LookupAnswer, ReadAnswer, Subject};
+use crate::subject::{
+    fresh_table, CloserAnswer, DaysAnswer, LookupAnswer, PlanningAnswer, ReadAnswer, Subject,
+    TimestampAnswer,
+};
 
 /// What `subject` answers otherwise than the case expects.
 pub fn differences(case: &Case, subject: &Subject) -> Vec<String> {
@@ -54,10 +57,16 @@ impl Run<'_> {
                 answer,
                 value,
             } => self.check_lookup(*at, key, *answer, value.as_deref()),
-            Expectation::Closer { at, end, answer } => {
-                let seen = (self.subject.find_closer)(self.text, *at, *end);
-                same(&format!("closer {at} {end}"), answer, &seen)
+            Expectation::Closer { at, end, answer } => self.check_closer(*at, *end, answer),
+            Expectation::Timestamp { text, at, answer } => {
+                self.check_timestamp(text.as_deref(), *at, answer)
             }
+            Expectation::Planning { at, answer } => self.check_planning(*at, answer),
+            Expectation::Days {
+                first,
+                second,
+                answer,
+            } => self.check_days(*first, *second, answer),
         }
     }
 
@@ -124,6 +133,33 @@ impl Run<'_> {
         same(&call, &answer, &seen)?;
         let part = self.text.get(seen.1..seen.2).unwrap_or_default();
         value.map_or(Ok(()), |value| same(&call, &escape(value), &escape(part)))
+    }
+
+    fn check_closer(&self, at: usize, end: usize, answer: &CloserAnswer) -> Result<(), String> {
+        let seen = (self.subject.find_closer)(self.text, at, end);
+        same(&format!("closer {at} {end}"), answer, &seen)
+    }
+
+    /// The timestamp at byte `at`, or at the front of a text of its own.
+    fn check_timestamp(
+        &self,
+        own: Option<&[u8]>,
+        at: usize,
+        answer: &TimestampAnswer,
+    ) -> Result<(), String> {
+        let seen = (self.subject.timestamp)(own.unwrap_or(self.text), at);
+        let told = own.map_or(at.to_string(), |text| format!("\"{}\"", escape(text)));
+        same(&format!("stamp {told}"), answer, &seen)
+    }
+
+    fn check_planning(&self, at: usize, answer: &PlanningAnswer) -> Result<(), String> {
+        let seen = (self.subject.planning)(self.text, at);
+        same(&format!("planning {at}"), answer, &seen)
+    }
+
+    fn check_days(&self, first: Date, second: Date, answer: &DaysAnswer) -> Result<(), String> {
+        let seen = (self.subject.days_between)(first, second);
+        same(&format!("days {first} {second}"), answer, &seen)
     }
 }
 

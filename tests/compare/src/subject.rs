@@ -1,4 +1,6 @@
-//! What is tested: a reading call, a lookup and a search for a closer.
+//! What is tested: a reading call, a lookup, a search for a closer, and the calls about dates.
+
+use plain_reader::{Date, StampNumbers};
 
 use crate::library;
 
@@ -12,12 +14,24 @@ pub type LookupAnswer = (u32, usize, usize);
 /// many lines were compared.
 pub type CloserAnswer = (u32, usize, usize, usize);
 
+/// The answer of a timestamp call: the stamp's end and its numbers.
+pub type TimestampAnswer = (usize, StampNumbers);
+
+/// The answer of a planning call: its number and the stamps of `CLOSED`, `DEADLINE`, `SCHEDULED`.
+pub type PlanningAnswer = (u32, [StampNumbers; 3]);
+
+/// The answer of a day count: its number and the days.
+pub type DaysAnswer = (u32, i32);
+
 #[derive(Clone, Copy)]
 pub struct Subject {
     pub name: &'static str,
     pub read: fn(&[u8], &mut [u32]) -> ReadAnswer,
     pub lookup: fn(&[u8], usize, &[u8]) -> LookupAnswer,
     pub find_closer: fn(&[u8], usize, usize) -> CloserAnswer,
+    pub timestamp: fn(&[u8], usize) -> TimestampAnswer,
+    pub planning: fn(&[u8], usize) -> PlanningAnswer,
+    pub days_between: fn(Date, Date) -> DaysAnswer,
 }
 
 pub const PLAIN_READER: Subject = Subject {
@@ -25,6 +39,9 @@ pub const PLAIN_READER: Subject = Subject {
     read: plain_reader::answer,
     lookup: plain_reader::lookup,
     find_closer: plain_reader::closer_search,
+    timestamp: plain_reader::timestamp,
+    planning: plain_reader::planning,
+    days_between: plain_reader::days_between,
 };
 
 pub const LIBRARY: Subject = Subject {
@@ -32,6 +49,9 @@ pub const LIBRARY: Subject = Subject {
     read: library::read,
     lookup: library::lookup,
     find_closer: library::find_closer,
+    timestamp: library::timestamp,
+    planning: library::planning,
+    days_between: library::days_between,
 };
 
 /// A table as it is before a call: no two neighbouring numbers are equal, and none is one that a

@@ -1,6 +1,7 @@
 //! Seeded texts: loose bytes, lines of Org, mutated order books, hostile texts, long texts.
 
 use crate::random::Random;
+use crate::stamps::{planning_body, stamp};
 use crate::words::*;
 
 /// A kind of seeded text.
@@ -27,6 +28,7 @@ const SAMPLES: &[&[u8]] = &[
     b"* A\n\n:PROPERTIES:\n:VIN: 7\n:END:\n",
     b"#+begin_src\n* A\n#+end_src\n",
     b"* A\nSCHEDULED: <2026-01-05>\n:PROPERTIES:\n:VIN: 7\n:a+: 8\n:END:\n| a |\n|-\n#+TBLFM: x\n",
+    b"* A\nCLOSED: [2026-01-05 Mon 9:05] DEADLINE: <2026-01-05 +1w/2w -3d>\n:PROPERTIES:\n:END:\n",
     b"\n# note\n:PROPERTIES:\n:a: 1\n:END:\n# note\n#+title: x\n-----\n: fixed\n",
     b"#+begin_quote\n:LOG:\n#+begin_src c\n:END:\n#+end_src\n:END:\n#+end_quote\n",
     b"** B\n:LOG:\n\ntext\n\n:END:\n\n* C\n:PROPERTIES:\n:END: x\n:END:\n:END:\n",
@@ -104,7 +106,7 @@ fn add_order(text: &mut Vec<u8>, random: &mut Random) {
     if random.chance(10) {
         add_blank_lines(text, random);
     }
-    if random.chance(40) {
+    if random.chance(50) {
         add_line(text, planning_body(random), random);
     }
     if random.chance(6) {
@@ -166,11 +168,12 @@ fn add_blank_lines(text: &mut Vec<u8>, random: &mut Random) {
 }
 
 fn add_any_line(text: &mut Vec<u8>, random: &mut Random) {
-    let body = match random.below(8) {
-        0 => planning_body(random),
-        1 => node_property_body(random),
-        2 => joined(&[b"#+begin_", random.pick(BLOCK_NAMES)]),
-        3 => joined(&[b"#+end_", random.pick(BLOCK_NAMES)]),
+    let body = match random.below(16) {
+        0 => stamp(random),
+        1 => planning_body(random),
+        2 | 3 => node_property_body(random),
+        4 | 5 => joined(&[b"#+begin_", random.pick(BLOCK_NAMES)]),
+        6 | 7 => joined(&[b"#+end_", random.pick(BLOCK_NAMES)]),
         _ => random.pick(LONE_BODIES).to_vec(),
     };
     add_line(text, body, random);
@@ -181,10 +184,6 @@ fn heading_line(random: &mut Random) -> Vec<u8> {
     line.push(if random.chance(95) { b' ' } else { b'\t' });
     line.extend(random.pick(TITLES));
     line
-}
-
-fn planning_body(random: &mut Random) -> Vec<u8> {
-    random.pick(PLANNING_BODIES).to_vec()
 }
 
 fn node_property_body(random: &mut Random) -> Vec<u8> {
@@ -258,7 +257,7 @@ fn piece(book: &[u8], longest: usize, random: &mut Random) -> Vec<u8> {
 }
 
 /// Bytes that a changed byte becomes.
-const ORG_BYTES: &[u8] = b" \t\r\n*:#+|-aZ_\xFF";
+const ORG_BYTES: &[u8] = b" \t\r\n*:#+|-aZ_\xFF<>[]19";
 
 fn mutate(text: &mut Vec<u8>, random: &mut Random) {
     let start = random.below(text.len() + 1);

@@ -21,7 +21,8 @@ pub const LOOSE_PIECES: &[&[u8]] = &[
     b"\n", b"\n", b"\n", b"\n", b" ", b"\t", b"\r", b"*", b"* ", b"** ", b":", b"#", b"+", b"#+",
     b"|", b"|-", b"-", b"-----", b"a", b"A", b"e", b"_", b":a:", b":END:", b":end:", b"#+begin_a",
     b"#+end_a", b"#+begin_src", b"#+END_SRC", b":PROPERTIES:", b"CLOSED:", b"#+TBLFM:", b"\x00",
-    b"\x0B", b"\x0C", b"\xC3\xA9", b"\xFF",
+    b"\x0B", b"\x0C", b"\xC3\xA9", b"\xFF", b"* \nCLOSED: ", b"<2026-01-05", b"[2026-01-05]", b">",
+    b"--",
 ];
 
 #[rustfmt::skip]
@@ -76,12 +77,87 @@ pub const TITLES: &[&[u8]] = &[
     b"A", b"", b"TODO b :tag:", b"\r", b" ", b"* c", b":PROPERTIES:",
 ];
 
-/// Planning lines, and some that just miss.
+/// Bodies with a planning word, of which one is a planning line.
 #[rustfmt::skip]
 pub const PLANNING_BODIES: &[&[u8]] = &[
     b"CLOSED:", b"DEADLINE: <2026-02-03>", b"SCHEDULED: x", b"SCHEDULED:x CLOSED: y", b"CLOSED",
-    b"DEADLINES: x", b"CLOSED :", b"XDEADLINE: x",
+    b"DEADLINES: x", b"CLOSED :", b"XDEADLINE: x", b"CLOSED: <%%(diary-float t 4 2)>",
 ];
+
+#[rustfmt::skip]
+pub const PLANNING_WORDS: &[&[u8]] = &[
+    b"CLOSED:", b"DEADLINE:", b"SCHEDULED:",
+];
+
+/// Words that just miss.
+#[rustfmt::skip]
+pub const OTHER_WORDS: &[&[u8]] = &[
+    b"CLOSED", b"DEADLINES:", b"XSCHEDULED:", b"CLOCK:", b"CLOSED :", b"CLOSED::", b"", b"x",
+];
+
+#[rustfmt::skip]
+pub const BRACKETS: &[&[u8]] = &[
+    b"<>", b"[]",
+];
+
+/// What joins two dates, and what just does not.
+#[rustfmt::skip]
+pub const JOINTS: &[&[u8]] = &[
+    b"--", b"--", b"--", b"--", b"--", b"--", b"--", b"--", b"--", b"--", b"--", b"--", b"--",
+    b"--", b"--", b"--", b"--", b"--", b"-", b"---", b"", b" --", b"-- ", b"--\n",
+];
+
+/// Dates, and two that just miss.
+#[rustfmt::skip]
+pub const DATES: &[&[u8]] = &[
+    b"2026-01-05", b"2024-02-30", b"0000-99-00", b"9999-12-31", b"2026-01-05", b"2024-02-29",
+    b"2026-01-05", b"1999-03-31", b"2026-01-05", b"2000-00-77", b"2026-01-05", b"0001-01-01",
+    b"2026-1-05", b"02026-01-05",
+];
+
+/// Day names, and some that just miss.
+#[rustfmt::skip]
+pub const DAY_NAMES: &[&[u8]] = &[
+    b"Mon", b"Tue", b"x", b".", b"D\xC3\xA9c", b"<", b"[", b"a:b/", b"\x0B", b"Wed", b"Thu", b"\xFF",
+    b"M0n", b"Mon-", b"+",
+];
+
+/// Times and time ranges, and some that just miss.
+#[rustfmt::skip]
+pub const TIMES: &[&[u8]] = &[
+    b"9:05", b"09:05", b"23:59", b"99:77", b"0:00", b"9:05-10:30", b"10:30-9:05", b"00:00-99:99",
+    b"9:05", b"9:05-10:30", b"19:05", b"1:00-2:00", b"009:05", b"9:5", b"9:05-", b"9:05--10:30",
+];
+
+/// Marks of repeaters, and some that just miss.
+#[rustfmt::skip]
+pub const REPEAT_MARKS: &[&[u8]] = &[
+    b"+", b"++", b".+", b"+", b"++", b".+", b"+", b"++", b".+", b"+", b"++", b".+", b"+++", b".",
+];
+
+/// Marks of delays, and one that just misses.
+#[rustfmt::skip]
+pub const DELAY_MARKS: &[&[u8]] = &[
+    b"-", b"--", b"-", b"--", b"-", b"--", b"-", b"--", b"-", b"--", b"---",
+];
+
+/// Units in both cases, and one that is none.
+pub const UNITS: &[u8] = b"hdwmyHDWMYhdwmyHDWMYhdwmyx";
+
+/// One or more blank bytes.
+#[rustfmt::skip]
+pub const GAPS: &[&[u8]] = &[
+    b"\t", b"\r", b"  ", b" \t\r", b"\r\r ",
+];
+
+/// No blank bytes.
+#[rustfmt::skip]
+pub const NO_GAPS: &[&[u8]] = &[
+    b"", b"\n", b"\x0B", b",",
+];
+
+/// What a damaged byte of a stamp becomes.
+pub const STAMP_BYTES: &[u8] = b"0123456789-+.:/<>[] \t\r\nhdwmyHxA%\xFF\x0B";
 
 #[rustfmt::skip]
 pub const PROPERTY_NAMES: &[&[u8]] = &[

@@ -1,4 +1,5 @@
-//! A plain reader of Org order books, written from documents 01 and 02 alone.
+//! A plain reader of Org order books, written from documents 01 and 02 alone, and for the parts of a
+//! timestamp from source 001.
 //!
 //! It shares nothing with the proved reader and is what that one is compared with. It is meant to
 //! be checked against the documents by eye, sentence by sentence, so it is simple before it is fast:
@@ -10,18 +11,26 @@
 //! | "What starts at a line" | `rules` |
 //! | "A record", "Headings and sections first"; order 7 | `reading` |
 //! | "Numbers of an answer" | `answer`, `lookup` |
+//! | order 1 | `stamp`, `numbers`, `planning`, `days`; rule 1 in `rules` |
 //! | order 3 | `closer` |
 
 mod answer;
 mod closer;
+mod days;
 mod line;
 mod lookup;
+mod numbers;
+mod planning;
 mod reading;
 mod rules;
+mod stamp;
 
 pub use answer::answer;
 pub use closer::closer_search;
+pub use days::{days_between, Date};
 pub use lookup::lookup;
+pub use numbers::{timestamp, MomentNumbers, StampNumbers, NO_MOMENT, NO_STAMP};
+pub use planning::planning;
 pub use reading::{read, Reading, Record};
 
 /// "1 | text over 65,536 bytes".

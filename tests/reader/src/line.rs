@@ -65,6 +65,13 @@ pub fn heading_stars(bytes: &[u8]) -> usize {
     }
 }
 
+/// A heading line starts at byte `at`.
+pub fn heading_line_starts(text: &[u8], at: usize) -> bool {
+    let starts_a_line = at == 0 || text.get(at - 1) == Some(&10);
+    let rest = text.get(at..).unwrap_or_default();
+    starts_a_line && heading_stars(rest) > 0
+}
+
 fn line_from(bytes: &[u8], start: usize) -> Line<'_> {
     let body = body_of(bytes);
     Line {

@@ -1,6 +1,6 @@
 //! Document 01, "Numbers of an answer": the lookup.
 
-use crate::line::{heading_stars, is_blank_byte, lines_of, same_letters, Line, Span};
+use crate::line::{heading_line_starts, is_blank_byte, lines_of, same_letters, Line, Span};
 use crate::rules::{node_property, property_drawer_closer};
 use crate::{LONGEST_KEY, LONGEST_TEXT};
 
@@ -37,13 +37,6 @@ fn refusal(number: u32) -> (u32, usize, usize) {
 fn is_bad_key(key: &[u8]) -> bool {
     let forbidden = |byte: &u8| is_blank_byte(*byte) || *byte == 10;
     key.is_empty() || key.len() > LONGEST_KEY || key.iter().any(forbidden) || key.ends_with(b"+")
-}
-
-/// A heading line starts at byte `at`.
-fn heading_line_starts(text: &[u8], at: usize) -> bool {
-    let starts_a_line = at == 0 || text.get(at - 1) == Some(&10);
-    let rest = text.get(at..).unwrap_or_default();
-    starts_a_line && heading_stars(rest) > 0
 }
 
 /// The node property lines of the property drawer of the heading that starts at byte `at`.

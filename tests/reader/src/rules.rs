@@ -1,9 +1,10 @@
-//! Document 01, "What starts at a line".
+//! Document 01, "What starts at a line"; rule 1 by document 02, order 1.
 //!
 //! A rule is asked of line `at` in the lines before `end`, the end of the container. It answers
 //! with what it found there, lines being named by their index.
 
 use crate::line::{first_run, is_blank_byte, same_letters, starts_with_letters, Line, Span};
+use crate::planning::planning_parts;
 
 /// The element that starts at a line.
 #[derive(Clone, Copy, Debug)]
@@ -68,14 +69,9 @@ fn rules_3_to_9(lines: &[Line], at: usize, end: usize) -> Option<Element> {
     keyword_value(line).map(|value| Element::Keyword { value })
 }
 
-/// Rule 1: "only on the line right after a heading line. The body starts with `CLOSED:`,
-/// `DEADLINE:` or `SCHEDULED:`."
+/// Rule 1: "only on the line right after a heading line", and by order 1 "dates all through".
 fn is_planning_line(lines: &[Line], at: usize) -> bool {
-    let words: [&[u8]; 3] = [b"CLOSED:", b"DEADLINE:", b"SCHEDULED:"];
-    is_right_after_heading(lines, at)
-        && words
-            .iter()
-            .any(|word| starts_with_letters(lines[at].body, word))
+    is_right_after_heading(lines, at) && planning_parts(lines[at].body).is_some()
 }
 
 fn is_right_after_heading(lines: &[Line], at: usize) -> bool {

@@ -13,6 +13,7 @@ use Rattle.text.specs.Bytes.{lower}
 use Rattle.text.specs.Runs.{word, isEmpty, same}
 use Rattle.text.proofs.Laws.Lines.{leading-le}
 use Rattle.text.specs.Lines.{Line, body, headLine, tailLines, leading}
+use Rattle.dates.proofs.Laws.Planning.{planning-off}
 use Rattle.rules.specs.Kind
 use Rattle.rules.specs.Names.{numberIn}
 use Rattle.rules.specs.LineTests.{isPlanning, isPropertiesLine, isEndLine, isNodeProperty, blockName, isDrawerLine}
@@ -175,21 +176,25 @@ module _ (ls : List Line) where
   abbrev x : List ℕ
   x = body (headLine ls)
 
+  -- a planning line begins with a keyword
+  isPlanning-other : isIn (firstAt ls) (word "cds") ≡ false → isPlanning (headLine ls) ≡ false
+  unfolding isPlanning word isEmpty lower isIn
+  isPlanning-other h =
+      let c = or-no _ _ h in
+      let d = or-no _ _ (c .1) in
+      let s = or-no _ _ (d .1) in
+      planning-off x (rw (
+        begins-other (word "closed:") x refl (c .0),
+        begins-other (word "deadline:") x refl (d .0),
+        begins-other (word "scheduled:") x refl (s .0),
+      ))
+
   -- rules 1 and 2, by their place
 
   module _ (pl : Place) where
     planning-other : isIn (firstAt ls) (word "cds") ≡ false → planning pl ls ≡ none
-    unfolding planning isPlanning word isEmpty lower isIn
-    planning-other h =
-        let c = or-no _ _ h in
-        let d = or-no _ _ (c .1) in
-        let s = or-no _ _ (d .1) in
-        when-no _ _ (rw (
-          begins-other (word "closed:") x refl (c .0),
-          begins-other (word "deadline:") x refl (d .0),
-          begins-other (word "scheduled:") x refl (s .0),
-          and-false,
-        ))
+    unfolding planning
+    planning-other h = when-no _ _ (rw (isPlanning-other h, and-false))
 
     planning-fine : If (Fine ls) (planning pl ls)
     unfolding planning innerOf

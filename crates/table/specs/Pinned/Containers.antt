@@ -28,14 +28,14 @@ blankCases =
 -- a property drawer holds its lines and a table its rows; a drawer and a greater block hold elements, a verbatim block none
 unfoldable pub heldCases : List Case
 heldCases =
-    "* a\nCLOSED: x\n:PROPERTIES:\n :B+:  \n:C: y z\n:END:\n\n" reads
-    (rec 1 0 50 0 50 0 0 0
-    ∷ rec 2 0 50 4 50 0 1 0
-    ∷ rec 3 4 50 4 50 1 0 1
-    ∷ rec 4 4 14 4 13 2 0 1
-    ∷ rec 5 14 50 27 43 2 0 2
-    ∷ rec 6 27 35 32 32 4 0 3
-    ∷ rec 6 35 43 39 42 4 0 4
+    "* a\nCLOSED: [2026-11-16]\n:PROPERTIES:\n :B+:  \n:C: y z\n:END:\n\n" reads
+    (rec 1 0 61 0 61 0 0 0
+    ∷ rec 2 0 61 4 61 0 1 0
+    ∷ rec 3 4 61 4 61 1 0 1
+    ∷ rec 4 4 25 4 24 2 0 1
+    ∷ rec 5 25 61 38 54 2 0 2
+    ∷ rec 6 38 46 43 43 4 0 3
+    ∷ rec 6 46 54 50 53 4 0 4
     ∷ [])
     ∷ "| a\n |- \n#+tblfm:\n\nx" reads
     (rec 1 0 20 0 20 0 0 0
@@ -68,19 +68,26 @@ closerCases =
     ∷ "#+begin_a\n|\n#+end_a\n#+tblfm:\n" kinds (1 ∷ 3 ∷ 8 ∷ 10 ∷ 11 ∷ 15 ∷ [])
     ∷ []
 
--- planning: only on the line right after a heading line
+-- planning: only on the line right after a heading line, and dates all through
 unfoldable pub planningCases : List Case
 planningCases =
-    "* a\nCLOSED: x\nCLOSED: y\n" kinds (1 ∷ 2 ∷ 3 ∷ 4 ∷ 16 ∷ [])
-    ∷ "* a\n\nCLOSED: x\n" kinds (1 ∷ 2 ∷ 3 ∷ 16 ∷ [])
-    ∷ "CLOSED: x\n" kinds (1 ∷ 3 ∷ 16 ∷ [])
+    "* a\nCLOSED: [2026-11-16]\nCLOSED: [2026-11-16]\n" kinds (1 ∷ 2 ∷ 3 ∷ 4 ∷ 16 ∷ [])
+    ∷ "* a\n\nCLOSED: [2026-11-16]\n" kinds (1 ∷ 2 ∷ 3 ∷ 16 ∷ [])
+    ∷ "CLOSED: [2026-11-16]\n" kinds (1 ∷ 3 ∷ 16 ∷ [])
+    ∷ "* a\nCLOSED: [2026-11-16] DEADLINE: <2026-11-16>\nx\n" kinds (1 ∷ 2 ∷ 3 ∷ 4 ∷ 16 ∷ [])
+    ∷ "* a\nSCHEDULED: ring him back\nx\n" kinds (1 ∷ 2 ∷ 3 ∷ 16 ∷ [])
+    ∷ "* a\nSCHEDULED:\n|\n" kinds (1 ∷ 2 ∷ 3 ∷ 16 ∷ 10 ∷ 11 ∷ [])
+    ∷ "* a\nCLOSED: [2026-11-16]x\n" kinds (1 ∷ 2 ∷ 3 ∷ 16 ∷ [])
     ∷ []
 
 -- property drawer: right after a heading line or its planning line; as the zeroth section's first element or right after a comment that is
 unfoldable pub drawerCases : List Case
 drawerCases =
     "* a\n:PROPERTIES:\n:END:\n" kinds (1 ∷ 2 ∷ 3 ∷ 5 ∷ [])
-    ∷ "* a\nCLOSED: x\n\n:PROPERTIES:\n:END:\n" kinds (1 ∷ 2 ∷ 3 ∷ 4 ∷ 7 ∷ [])
+    ∷ "* a\nCLOSED: [2026-11-16] DEADLINE: <2026-11-16>\n:PROPERTIES:\n:END:\n" kinds (1 ∷ 2 ∷ 3 ∷ 4 ∷ 5 ∷ [])
+    ∷ "* a\nCLOSED: [2026-11-16]\n\n:PROPERTIES:\n:END:\n" kinds (1 ∷ 2 ∷ 3 ∷ 4 ∷ 7 ∷ [])
+    ∷ "* a\nSCHEDULED: ring him back\n:PROPERTIES:\n:END:\n" kinds (1 ∷ 2 ∷ 3 ∷ 16 ∷ 7 ∷ [])
+    ∷ "* a\nCLOSED: [2026-11-16]x\n:PROPERTIES:\n:END:\n" kinds (1 ∷ 2 ∷ 3 ∷ 16 ∷ 7 ∷ [])
     ∷ "* a\n# b\n:PROPERTIES:\n:END:\n" kinds (1 ∷ 2 ∷ 3 ∷ 12 ∷ 7 ∷ [])
     ∷ "\n:PROPERTIES:\n:END:\n:PROPERTIES:\n:END:\n" kinds (1 ∷ 3 ∷ 5 ∷ 7 ∷ [])
     ∷ "# a\n#\n:PROPERTIES:\n:A: x\n:END:\n" kinds (1 ∷ 3 ∷ 12 ∷ 5 ∷ 6 ∷ [])

@@ -6,6 +6,7 @@ use std::process::ExitCode;
 use std::time::{Duration, Instant};
 
 use comparison::check::{check, Tally};
+use comparison::dates::check_days;
 use comparison::escape::escape;
 use comparison::random::Random;
 use comparison::searches::MEETINGS;
@@ -41,21 +42,37 @@ fn main() -> ExitCode {
             report(text);
             return ExitCode::FAILURE;
         }
+        if let Err(difference) = check_days(&mut random, &mut tally.dates) {
+            println!("seed {seed}: {difference}");
+            return ExitCode::FAILURE;
+        }
     }
     println!("{}", summary(count, &texts, &tally));
     if count >= COUNT && !sees_all(&texts, &tally) {
-        eprintln!("compare: a class of text, an answer, a kind or a sort of search never came");
+        eprintln!(
+            "compare: a class of text, an answer, a kind, a sort of search or of date never came"
+        );
         return ExitCode::FAILURE;
     }
     ExitCode::SUCCESS
 }
 
 /// Did each class of text, each answer of readings and lookups, each kind of record and each sort of
-/// search for a closer come?
+/// search for a closer and of answer about dates come?
 fn sees_all(texts: &[usize], tally: &Tally) -> bool {
     let lookups = [0, 1, 4, 5, 6, 7].map(|number| tally.lookups[number]);
     let kinds = &tally.kinds[1..];
-    let seen = [texts, &tally.readings, &lookups, kinds, &tally.searches].concat();
+    let dates = tally.dates.seen().into_iter().flat_map(|(_, seen)| seen);
+    let dates: Vec<usize> = dates.map(|(_, count)| count).collect();
+    let seen = [
+        texts,
+        &tally.readings,
+        &lookups,
+        kinds,
+        &tally.searches,
+        &dates,
+    ]
+    .concat();
     seen.iter().all(|count| *count > 0)
 }
 
@@ -74,19 +91,27 @@ fn summary(count: u64, texts: &[usize], tally: &Tally) -> String {
     let classes: Vec<String> = classes
         .map(|(class, seen)| format!("{class:?} {seen}"))
         .collect();
-    let searches = MEETINGS.iter().zip(tally.searches);
-    let searches: Vec<String> = searches
-        .map(|((meeting, _), seen)| format!("{meeting} {seen}"))
-        .collect();
+    let searches = MEETINGS.iter().map(|(meeting, _)| *meeting);
+    let searches = by_name(searches.zip(tally.searches));
+    let dates = tally.dates.seen();
+    let dates = dates.map(|(about, seen)| format!("{about}: {}", by_name(seen.into_iter())));
     format!(
         "compare: {count} texts agree ({}); readings by number {}; lookups by number {}; \
-         records by kind {}; searches for closers: {}",
+         records by kind {}; searches for closers: {searches}; {}",
         classes.join(", "),
         by_number(&tally.readings),
         by_number(&tally.lookups),
         by_number(&tally.kinds),
-        searches.join(", "),
+        dates.join("; "),
     )
+}
+
+/// Names, each with how often.
+fn by_name<'n>(seen: impl Iterator<Item = (&'n str, usize)>) -> String {
+    let seen: Vec<String> = seen
+        .map(|(name, count)| format!("{name} {count}"))
+        .collect();
+    seen.join(", ")
 }
 
 /// The numbers that were seen, each with how often.

@@ -1,0 +1,65 @@
+-- Timestamps in numbers, held to cases worked out by hand.
+use mathlib.Core.List.{List, [], _∷_, _++_}
+use Prim.Native.Nat.{ℕ}
+use Prim.Native.String.{String}
+use Rattle.text.specs.Runs.{word}
+use Rattle.text.specs.Parts.{OpenParts}
+use Rattle.text.specs.Cases.{Case, case, OpenCases}
+use Rattle.dates.specs.Stamps.{OpenStamps}
+use Rattle.comaltzex.specs.Numbers.{stampAt}
+use Rattle.comaltzex.specs.declared.stamp.IntervalNumbers.{IntervalNumbers}
+use Rattle.comaltzex.specs.declared.stamp.MomentNumbers.{MomentNumbers}
+
+-- the numbers of a date in their order: the date, the time, the repeater, the delay, and whether the delay stands first
+unfoldable pub intervalList : IntervalNumbers → List ℕ
+intervalList i = i .count ∷ i .unit ∷ []
+
+unfoldable pub momentList : MomentNumbers → List ℕ
+unfolding intervalList
+momentList m =
+    (m .date .year ∷ m .date .month ∷ m .date .day ∷ m .clock .has ∷ m .clock .hour ∷ m .clock .minute ∷ [])
+    ++ (m .repeat .mark ∷ []) ++ intervalList (m .repeat .every) ++ intervalList (m .repeat .within)
+    ++ (m .delay .mark ∷ []) ++ intervalList (m .delay .by) ++ (m .swapped ∷ [])
+
+-- a text with a timestamp at byte p: its kind, its end and its two dates
+infix 100 _at_stamps_to_first_second_
+unfoldable pub _at_stamps_to_first_second_ : String → ℕ → ℕ → ℕ → List ℕ → List ℕ → Case
+unfolding momentList
+w at p stamps k to e first a second b =
+    let r = stampAt (word w) p in
+    case w (r .kind ∷ r .end ∷ momentList (r .first) ++ momentList (r .second)) (k ∷ e ∷ a ++ b)
+
+unfoldable pub noNumbers : List ℕ
+noNumbers = 0 ∷ 0 ∷ 0 ∷ 0 ∷ 0 ∷ 0 ∷ 0 ∷ 0 ∷ 0 ∷ 0 ∷ 0 ∷ 0 ∷ 0 ∷ 0 ∷ 0 ∷ []
+
+-- a date with a time or none, and neither repeater nor delay
+unfoldable pub plain : List ℕ → List ℕ
+plain x = x ++ (0 ∷ 0 ∷ 0 ∷ 0 ∷ 0 ∷ 0 ∷ 0 ∷ 0 ∷ 0 ∷ [])
+
+unfoldable pub stampCases : List Case
+stampCases =
+    "x <2026-11-16>" at 2 stamps 1 to 14 first plain (2026 ∷ 11 ∷ 16 ∷ 0 ∷ 0 ∷ 0 ∷ []) second noNumbers
+    ∷ "[2026-11-16 Mon 9:05]." at 0 stamps 4 to 21 first plain (2026 ∷ 11 ∷ 16 ∷ 1 ∷ 9 ∷ 5 ∷ []) second noNumbers
+    -- a repeater with and without a limit, a delay, both in either order
+    ∷ "<2026-11-16 +2w>" at 0 stamps 1 to 16 first (2026 ∷ 11 ∷ 16 ∷ 0 ∷ 0 ∷ 0 ∷ 1 ∷ 2 ∷ 119 ∷ 0 ∷ 0 ∷ 0 ∷ 0 ∷ 0 ∷ 0 ∷ []) second noNumbers
+    ∷ "<2026-11-16 ++2W/3m>" at 0 stamps 1 to 20 first (2026 ∷ 11 ∷ 16 ∷ 0 ∷ 0 ∷ 0 ∷ 2 ∷ 2 ∷ 119 ∷ 3 ∷ 109 ∷ 0 ∷ 0 ∷ 0 ∷ 0 ∷ []) second noNumbers
+    ∷ "<2026-11-16 -4d>" at 0 stamps 1 to 16 first (2026 ∷ 11 ∷ 16 ∷ 0 ∷ 0 ∷ 0 ∷ 0 ∷ 0 ∷ 0 ∷ 0 ∷ 0 ∷ 1 ∷ 4 ∷ 100 ∷ 0 ∷ []) second noNumbers
+    ∷ "<2026-11-16 .+2y --4h>" at 0 stamps 1 to 22 first (2026 ∷ 11 ∷ 16 ∷ 0 ∷ 0 ∷ 0 ∷ 3 ∷ 2 ∷ 121 ∷ 0 ∷ 0 ∷ 2 ∷ 4 ∷ 104 ∷ 0 ∷ []) second noNumbers
+    ∷ "<2026-11-16 --4h .+2y>" at 0 stamps 1 to 22 first (2026 ∷ 11 ∷ 16 ∷ 0 ∷ 0 ∷ 0 ∷ 3 ∷ 2 ∷ 121 ∷ 0 ∷ 0 ∷ 2 ∷ 4 ∷ 104 ∷ 1 ∷ []) second noNumbers
+    -- a time range has its date again; a second date has its own numbers
+    ∷ "<2026-11-16 9:05-10:15 +2w>" at 0 stamps 2 to 27 first (2026 ∷ 11 ∷ 16 ∷ 1 ∷ 9 ∷ 5 ∷ 1 ∷ 2 ∷ 119 ∷ 0 ∷ 0 ∷ 0 ∷ 0 ∷ 0 ∷ 0 ∷ [])
+    second plain (2026 ∷ 11 ∷ 16 ∷ 1 ∷ 10 ∷ 15 ∷ [])
+    ∷ "[2026-11-16 9:05-10:15]" at 0 stamps 5 to 23 first plain (2026 ∷ 11 ∷ 16 ∷ 1 ∷ 9 ∷ 5 ∷ []) second plain (2026 ∷ 11 ∷ 16 ∷ 1 ∷ 10 ∷ 15 ∷ [])
+    ∷ "<2026-11-16>--<2026-11-17 9:05 -4d>" at 0 stamps 3 to 35 first plain (2026 ∷ 11 ∷ 16 ∷ 0 ∷ 0 ∷ 0 ∷ [])
+    second (2026 ∷ 11 ∷ 17 ∷ 1 ∷ 9 ∷ 5 ∷ 0 ∷ 0 ∷ 0 ∷ 0 ∷ 0 ∷ 1 ∷ 4 ∷ 100 ∷ 0 ∷ [])
+    ∷ "[2026-11-16]--[2026-11-17]" at 0 stamps 6 to 26 first plain (2026 ∷ 11 ∷ 16 ∷ 0 ∷ 0 ∷ 0 ∷ []) second plain (2026 ∷ 11 ∷ 17 ∷ 0 ∷ 0 ∷ 0 ∷ [])
+    -- none: another byte, the text's end, past it
+    ∷ "<2026-11-16>" at 1 stamps 0 to 0 first noNumbers second noNumbers
+    ∷ "<2026-11-16>" at 12 stamps 0 to 0 first noNumbers second noNumbers
+    ∷ "<2026-11-16>" at 13 stamps 0 to 0 first noNumbers second noNumbers
+    ∷ []
+
+-- opens these cases and what they are cases of
+unfoldable pub OpenStampCases : Type 1
+unfolding OpenParts OpenCases OpenStamps _at_stamps_to_first_second_ noNumbers plain stampCases
+OpenStampCases = Type 0
