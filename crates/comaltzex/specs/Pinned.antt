@@ -5,10 +5,14 @@ use Prim.Native.String.{String}
 use Rattle.text.specs.Runs.{word}
 use Rattle.text.specs.Parts.{OpenParts}
 use Rattle.text.specs.Cases.{Case, case, OpenCases}
-use Rattle.dates.specs.Stamps.{OpenStamps}
-use Rattle.comaltzex.specs.Numbers.{stampAt}
+use Rattle.dates.specs.Planning.{OpenPlanning}
+use Rattle.table.specs.Reading.{OpenReading}
+use Rattle.lookup.specs.Stages.{headingAt}
+use Rattle.lookup.specs.Planning.{bodyAfter, planning}
+use Rattle.comaltzex.specs.Numbers.{stampAt, planAt}
 use Rattle.comaltzex.specs.declared.stamp.IntervalNumbers.{IntervalNumbers}
 use Rattle.comaltzex.specs.declared.stamp.MomentNumbers.{MomentNumbers}
+use Rattle.comaltzex.specs.declared.stamp.Stamp.{Stamp}
 
 -- the numbers of a date in their order: the date, the time, the repeater, the delay, and whether the delay stands first
 unfoldable pub intervalList : IntervalNumbers → List ℕ
@@ -59,7 +63,25 @@ stampCases =
     ∷ "<2026-11-16>" at 13 stamps 0 to 0 first noNumbers second noNumbers
     ∷ []
 
+-- the planning line of the heading at byte p: the answer's number, and of each keyword's stamp the kind and the day
+infix 100 _at_plans_closed_deadline_scheduled_
+unfoldable pub _at_plans_closed_deadline_scheduled_ : String → ℕ → ℕ → List ℕ → List ℕ → List ℕ → Case
+w at p plans n closed a deadline b scheduled c =
+    let r = planAt (word w) p in
+    let brief : Stamp → List ℕ = λ x. x .kind ∷ x .first .date .day ∷ [] in
+    case w (r .number ∷ brief (r .closed) ++ brief (r .deadline) ++ brief (r .scheduled)) (n ∷ a ++ b ++ c)
+
+unfoldable pub planCases : List Case
+planCases =
+    "* A\nCLOSED: [2026-11-15] DEADLINE: <2026-11-17 9:05-10:15> SCHEDULED: <2026-11-16>" at 0 plans 0 closed (4 ∷ 15 ∷ []) deadline (2 ∷ 17 ∷ [])
+    scheduled (1 ∷ 16 ∷ [])
+    ∷ "* A\nDEADLINE: <2026-11-17>" at 0 plans 0 closed (0 ∷ 0 ∷ []) deadline (1 ∷ 17 ∷ []) scheduled (0 ∷ 0 ∷ [])
+    ∷ "* A\nDEADLINE: soon" at 0 plans 0 closed (0 ∷ 0 ∷ []) deadline (0 ∷ 0 ∷ []) scheduled (0 ∷ 0 ∷ [])
+    ∷ "* A\nDEADLINE: <2026-11-17>" at 4 plans 4 closed (0 ∷ 0 ∷ []) deadline (0 ∷ 0 ∷ []) scheduled (0 ∷ 0 ∷ [])
+    ∷ []
+
 -- opens these cases and what they are cases of
 unfoldable pub OpenStampCases : Type 1
-unfolding OpenParts OpenCases OpenStamps _at_stamps_to_first_second_ noNumbers plain stampCases
+unfolding OpenParts OpenCases OpenReading OpenPlanning headingAt bodyAfter planning _at_stamps_to_first_second_ noNumbers plain stampCases
+    _at_plans_closed_deadline_scheduled_ planCases
 OpenStampCases = Type 0
