@@ -33,7 +33,7 @@ extern "C" {
  * comaltzex_version() is another number, the library is not the one that this
  * header declares.
  */
-#define COMALTZEX_VERSION 4
+#define COMALTZEX_VERSION 5
 
 #define COMALTZEX_TEXT_LIMIT 65536 /* the longest text, in bytes */
 #define COMALTZEX_DEPTH_LIMIT 32   /* the deepest drawer or greater block */
@@ -43,15 +43,19 @@ extern "C" {
 /* The number of an answer. */
 enum comaltzex_number {
     COMALTZEX_OK = 0,
-    COMALTZEX_TOO_LONG = 1,   /* the text is over COMALTZEX_TEXT_LIMIT */
-    COMALTZEX_TOO_DEEP = 2,   /* a drawer or greater block at depth 33 or more */
-    COMALTZEX_NO_ROOM = 3,    /* more records than the table has room for */
-    COMALTZEX_NO_HEADING = 4, /* no heading line starts at that byte */
-    COMALTZEX_NO_DRAWER = 5,  /* that heading has no property drawer */
-    COMALTZEX_NO_KEY = 6,     /* no line of that drawer has the key */
-    COMALTZEX_BAD_KEY = 7,    /* the key is empty, over COMALTZEX_KEY_LIMIT, holds
-                                 byte 9, 10, 13 or 32, or ends in '+' */
-    COMALTZEX_NO_DAY = 11     /* a date is no calendar day of years 1 to 9999 */
+    COMALTZEX_TOO_LONG = 1,     /* the text is over COMALTZEX_TEXT_LIMIT */
+    COMALTZEX_TOO_DEEP = 2,     /* a drawer or greater block at depth 33 or more */
+    COMALTZEX_NO_ROOM = 3,      /* more records than the table has room for */
+    COMALTZEX_NO_HEADING = 4,   /* no heading line starts at that byte */
+    COMALTZEX_NO_DRAWER = 5,    /* that heading has no property drawer, and none of
+                                   8, 9 and 10 says why */
+    COMALTZEX_NO_KEY = 6,       /* no line of that drawer has the key */
+    COMALTZEX_BAD_KEY = 7,      /* the key is empty, over COMALTZEX_KEY_LIMIT, holds
+                                   byte 9, 10, 13 or 32, or ends in '+' */
+    COMALTZEX_BLANK_FIRST = 8,  /* blank lines stand above `:PROPERTIES:` */
+    COMALTZEX_NOT_PROPERTY = 9, /* a line up to `:END:` is no node property */
+    COMALTZEX_NOT_CLOSED = 10,  /* no `:END:` follows `:PROPERTIES:` */
+    COMALTZEX_NO_DAY = 11       /* a date is no calendar day of years 1 to 9999 */
 };
 
 /* The numbers of a record, in order. */
@@ -95,9 +99,10 @@ typedef struct comaltzex_reading {
 } comaltzex_reading;
 
 typedef struct comaltzex_part {
-    uint32_t number; /* 0, 1, 4, 5, 6 or 7 */
+    uint32_t number; /* 0, 1 or 4 to 10 */
     size_t start;
     size_t end;
+    size_t further;  /* with 9 where a line starts, else 0 */
 } comaltzex_part;
 
 typedef struct comaltzex_closer {
@@ -202,16 +207,31 @@ comaltzex_reading comaltzex_read(const uint8_t *text, size_t text_len,
  * Finds the value of a property of the heading whose line starts at byte `at`,
  * in that heading's own property drawer. The case of ASCII letters in the key
  * counts for nothing; the first line with the key decides, be it `:KEY:` or
- * `:KEY+:`. The first of these that holds is the answer:
+ * `:KEY+:`.
  *
- *   1  the text is over 65,536 bytes
- *   7  the key is empty, over 64 bytes, holds byte 9, 10, 13 or 32, or ends in '+'
- *   4  no heading line starts at byte `at`
- *   5  that heading has no property drawer
- *   6  no line of the drawer has the key
- *   0  the value is text[start] up to, not including, text[end]; it may be empty
+ * The drawer's place is the line after the heading line, or after its planning
+ * line. From there on the lines up to the next heading line count. Bytes 32 and 9
+ * may stand before `:PROPERTIES:` and `:END:`, blank bytes (32, 9 and 13) after
+ * them; the case of their letters counts for nothing. A node property is `:NAME:`
+ * or `:NAME+:`, perhaps after bytes 32 and 9, with nothing or a blank byte after
+ * it; NAME is not empty, has no blank bytes and no '+' at its end. The first of
+ * these that holds is the answer:
  *
- * With 1, 4, 5, 6 and 7 the part is empty and at byte 0: start and end are 0.
+ *   1   the text is over 65,536 bytes
+ *   7   the key is empty, over 64 bytes, holds byte 9, 10, 13 or 32, or ends in '+'
+ *   4   no heading line starts at byte `at`
+ *   8   a blank line stands in the place, and the next line that is not blank is
+ *       `:PROPERTIES:`
+ *   10  `:PROPERTIES:` stands in the place, and no `:END:` follows
+ *   9   `:PROPERTIES:` stands in the place and `:END:` follows, but a line between
+ *       them is no node property (a blank line is none); further is where the
+ *       first such line starts, its indentation included
+ *   5   the heading has no property drawer, for any other reason
+ *   6   no line of the drawer has the key
+ *   0   the value is text[start] up to, not including, text[end]; it may be empty
+ *
+ * At most one of 8, 10, 9 and 5 holds. With every number but 0 the part is empty
+ * and at byte 0: start and end are 0. With every number but 9 further is 0.
  */
 comaltzex_part comaltzex_lookup(const uint8_t *text, size_t text_len, size_t at,
                                 const uint8_t *key, size_t key_len);
@@ -332,6 +352,12 @@ static inline const char *comaltzex_number_name(uint32_t number)
         return "no key";
     case COMALTZEX_BAD_KEY:
         return "bad key";
+    case COMALTZEX_BLANK_FIRST:
+        return "blank lines first";
+    case COMALTZEX_NOT_PROPERTY:
+        return "not a property";
+    case COMALTZEX_NOT_CLOSED:
+        return "not closed";
     case COMALTZEX_NO_DAY:
         return "no calendar day";
     default:

@@ -43,6 +43,7 @@ pub fn passes() -> bool {
     ];
     held.extend(texts::hostile(HOSTILE_SIZE).iter().map(time_held));
     held.extend(calls_held());
+    held.extend(refused_lookups_held());
     held.push(days_held());
     held.iter().all(|&held| held)
 }
@@ -57,6 +58,15 @@ fn calls_held() -> [bool; 3] {
         growth_held("stamp", contest::timestamp, stamps),
         growth_held("plan", contest::planning, planning_lines),
     ]
+}
+
+/// The lookups that are refused, each likewise.
+fn refused_lookups_held() -> Vec<bool> {
+    let [short, long] = GROWING_SIZES.map(texts::refused);
+    let pairs = short.into_iter().zip(long);
+    pairs
+        .map(|(short, long)| growth_held("look", contest::refused_lookup, [short, long]))
+        .collect()
 }
 
 /// Is a reading at most `limit` times as long as the count, in one of the tries?

@@ -3,7 +3,7 @@
 use std::hint::black_box;
 use std::time::{Duration, Instant};
 
-use comaltzex::Date;
+use comaltzex::{Date, LookupRefusal};
 
 use crate::count;
 
@@ -18,6 +18,16 @@ pub fn comaltzex(text: &[u8], table: &mut [u32]) {
 /// The closer of the text's first line, up to the text's end.
 pub fn find_closer(text: &[u8], _: &mut [u32]) {
     black_box(comaltzex::find_closer(black_box(text), 0, text.len()));
+}
+
+/// The lookup at the text's first heading, which is refused.
+pub fn refused_lookup(text: &[u8], _: &mut [u32]) {
+    black_box(refusal(black_box(text)));
+}
+
+/// Why the text's first heading has no property.
+pub fn refusal(text: &[u8]) -> LookupRefusal {
+    comaltzex::lookup(text, 0, b"VIN").expect_err("the heading has no property drawer")
 }
 
 /// The timestamp that is the text.

@@ -26,6 +26,8 @@ round's own. The machine is noisy: only ratios within one run count.
   vector  byte 10 counted by vector instructions
   plain   the independent plain reader
   find    comaltzex_find_closer, from the first line to the end
+  look    comaltzex_lookup at the first heading, refused with that number; of 9 the
+          crate counts the lines before, too
   stamp   comaltzex_timestamp, on a text that is one timestamp
   plan    comaltzex_planning, on a heading and its planning line
   days    comaltzex_days_between, from 1 January to 31 December: nanoseconds a call
@@ -35,6 +37,7 @@ pub fn print() {
     println!("{EXPLANATION}");
     print_readings();
     print_searches();
+    print_refused_lookups();
     print_stamps();
     print_plans();
     print_days();
@@ -64,6 +67,13 @@ fn print_searches() {
     print_call_head("search", "compared", "find");
     for text in SIZES.map(texts::one_opener) {
         print_call(&text, agreed_search(&text), contest::find_closer);
+    }
+}
+
+fn print_refused_lookups() {
+    print_call_head("refused lookup", "number", "look");
+    for text in SIZES.into_iter().flat_map(texts::refused) {
+        print_call(&text, agreed_refusal(&text), contest::refused_lookup);
     }
 }
 
@@ -149,6 +159,18 @@ fn agreed_table(text: &Text) -> Vec<u32> {
     let agreed = answer == (0, ours.len() / RECORD_SIZE) && ours == theirs;
     assert!(agreed, "the readers differ on the text `{}`", text.name);
     ours
+}
+
+/// The number of a refused lookup; both readers must agree on it.
+fn agreed_refusal(text: &Text) -> usize {
+    let ours = contest::refusal(&text.bytes).number();
+    let (theirs, ..) = plain_reader::lookup(&text.bytes, 0, b"VIN");
+    assert_eq!(
+        ours, theirs,
+        "the lookups differ on the text `{}`",
+        text.name
+    );
+    ours as usize
 }
 
 /// How many lines a search compares that finds no closer; both readers must agree on it.

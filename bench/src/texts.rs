@@ -90,6 +90,19 @@ pub fn one_opener(size: usize) -> Text {
     }
 }
 
+/// Headings whose lookups are refused after a look at all that follows: `:PROPERTIES:` below
+/// blank lines, one that is never closed, and one with a line last that is no property.
+pub fn refused(size: usize) -> [Text; 3] {
+    let heading = |lines| filled("* A\n", lines, size);
+    let drawer = || filled("* A\n:PROPERTIES:\n", ":VIN: 7\n", size);
+    [
+        ("blanks first", ended(heading("\n"), ":PROPERTIES:\n")),
+        ("never closed", drawer()),
+        ("bad line last", ended(drawer(), "x\n:END:\n")),
+    ]
+    .map(|(name, bytes)| Text { name, bytes })
+}
+
 /// A timestamp with all its parts, and as many blanks between them as fit the size.
 pub fn spaced_stamp(size: usize) -> Text {
     let parts = ["<2026-11-16", "Mon", "09:30-10:00", "+1w/2w", "-3d>"];
@@ -285,7 +298,7 @@ const WORDS: [&str; 24] = [
 
 #[cfg(test)]
 mod tests {
-    use comaltzex::Kind;
+    use comaltzex::{Kind, LookupRefusal};
 
     use super::*;
 
@@ -299,6 +312,25 @@ mod tests {
                 .iter()
                 .all(|&length| length <= size && length > size - 13));
         }
+    }
+
+    #[test]
+    fn refused_texts_have_their_size_and_number() {
+        for size in [4096, 65_536] {
+            let texts = refused(size).map(|text| text.bytes);
+            assert!(texts.iter().all(|t| t.len() <= size && t.len() > size - 13));
+            let refusals = texts.map(|text| comaltzex::lookup(&text, 0, b"VIN").unwrap_err());
+            assert_eq!(refusals.map(|refusal| refusal.number()), [8, 10, 9]);
+        }
+    }
+
+    #[test]
+    fn the_bad_line_is_the_last_but_one() {
+        let [_, _, text] = refused(4096).map(|text| text.bytes);
+        let refusal = comaltzex::lookup(&text, 0, b"VIN").unwrap_err();
+        let start = text.len() - b"x\n:END:\n".len();
+        let line = text.iter().filter(|&&byte| byte == b'\n').count() - 2;
+        assert_eq!(refusal, LookupRefusal::NotProperty { start, line });
     }
 
     #[test]

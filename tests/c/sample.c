@@ -4,6 +4,7 @@
  */
 #include "check.h"
 #include "comaltzex.h"
+#include "lookup.h"
 
 #include <stdio.h>
 #include <string.h>
@@ -63,16 +64,6 @@ static void check_field(const char *what, enum comaltzex_field field,
         check(what, table[i * COMALTZEX_RECORD_SIZE + field], wanted[i]);
 }
 
-static void check_lookup(const char *what, const char *text, size_t text_len, size_t at,
-                         const char *key, uint32_t number, size_t start, size_t end)
-{
-    comaltzex_part part = comaltzex_lookup((const uint8_t *)text, text_len, at,
-                                           (const uint8_t *)key, strlen(key));
-    check(what, part.number, number);
-    check(what, part.start, start);
-    check(what, part.end, end);
-}
-
 static void check_closer(const char *what, const char *text, size_t text_len, size_t at,
                          size_t end, comaltzex_closer wanted)
 {
@@ -104,9 +95,10 @@ static void number_names(void)
     check_name(COMALTZEX_NO_DRAWER, "no drawer");
     check_name(COMALTZEX_NO_KEY, "no key");
     check_name(COMALTZEX_BAD_KEY, "bad key");
+    check_name(COMALTZEX_BLANK_FIRST, "blank lines first");
+    check_name(COMALTZEX_NOT_PROPERTY, "not a property");
+    check_name(COMALTZEX_NOT_CLOSED, "not closed");
     check_name(COMALTZEX_NO_DAY, "no calendar day");
-    check_name(COMALTZEX_BAD_KEY + 1, "unknown");
-    check_name(COMALTZEX_NO_DAY - 1, "unknown");
     check_name(COMALTZEX_NO_DAY + 1, "unknown");
 }
 
@@ -122,7 +114,7 @@ static void first_sample(void)
                COMALTZEX_NO_ROOM, 6);
     check_read("first sample, a number less", FIRST, 35, fitting - 1, COMALTZEX_NO_ROOM, 6);
     check_read("first sample, no room", FIRST, 35, 0, COMALTZEX_NO_ROOM, 6);
-    check_lookup("vin", FIRST, 35, 0, "vin", COMALTZEX_OK, 23, 24);
+    check_lookup("vin", FIRST, 35, 0, "vin", (comaltzex_part){COMALTZEX_OK, 23, 24, 0});
 }
 
 static void second_sample(void)
@@ -133,7 +125,7 @@ static void second_sample(void)
     check_read("second sample", SECOND, 32, LENGTH(table), COMALTZEX_OK, LENGTH(kinds));
     check_field("second sample's kinds", COMALTZEX_FIELD_KIND, kinds, LENGTH(kinds));
     check_field("second sample's lines", COMALTZEX_FIELD_LINE, lines, LENGTH(lines));
-    check_lookup("vin below a blank line", SECOND, 32, 0, "VIN", COMALTZEX_NO_DRAWER, 0, 0);
+    check_lookup("vin below a blank line", SECOND, 32, 0, "VIN", refused(COMALTZEX_BLANK_FIRST));
 }
 
 static void third_sample(void)
@@ -168,7 +160,7 @@ static void empty_text(void)
     for (i = 0; i < LENGTH(document); i++)
         check("empty text's table", table[i], document[i]);
     check_read("empty text, a number less", "", 0, COMALTZEX_RECORD_SIZE - 1, COMALTZEX_NO_ROOM, 1);
-    check_lookup("empty text", "", 0, 0, "VIN", COMALTZEX_NO_HEADING, 0, 0);
+    check_lookup("empty text", "", 0, 0, "VIN", refused(COMALTZEX_NO_HEADING));
 }
 
 static void lookup_refusals(void)
@@ -176,16 +168,16 @@ static void lookup_refusals(void)
     char key[COMALTZEX_KEY_LIMIT + 2];
     memset(key, 'k', sizeof(key) - 1);
     key[sizeof(key) - 1] = '\0';
-    check_lookup("key of 65 bytes", FIRST, 35, 0, key, COMALTZEX_BAD_KEY, 0, 0);
-    check_lookup("key of 64 bytes", FIRST, 35, 0, key + 1, COMALTZEX_NO_KEY, 0, 0);
-    check_lookup("empty key", FIRST, 35, 0, "", COMALTZEX_BAD_KEY, 0, 0);
-    check_lookup("blank in key", FIRST, 35, 0, "V N", COMALTZEX_BAD_KEY, 0, 0);
-    check_lookup("newline in key", FIRST, 35, 0, "VIN\n", COMALTZEX_BAD_KEY, 0, 0);
-    check_lookup("plus at key's end", FIRST, 35, 0, "VIN+", COMALTZEX_BAD_KEY, 0, 0);
-    check_lookup("bad key, no heading", FIRST, 35, 1, "VIN+", COMALTZEX_BAD_KEY, 0, 0);
-    check_lookup("no heading", FIRST, 35, 1, "VIN", COMALTZEX_NO_HEADING, 0, 0);
-    check_lookup("past the end", FIRST, 35, 36, "VIN", COMALTZEX_NO_HEADING, 0, 0);
-    check_lookup("other key", FIRST, 35, 0, "FUEL", COMALTZEX_NO_KEY, 0, 0);
+    check_lookup("key of 65 bytes", FIRST, 35, 0, key, refused(COMALTZEX_BAD_KEY));
+    check_lookup("key of 64 bytes", FIRST, 35, 0, key + 1, refused(COMALTZEX_NO_KEY));
+    check_lookup("empty key", FIRST, 35, 0, "", refused(COMALTZEX_BAD_KEY));
+    check_lookup("blank in key", FIRST, 35, 0, "V N", refused(COMALTZEX_BAD_KEY));
+    check_lookup("newline in key", FIRST, 35, 0, "VIN\n", refused(COMALTZEX_BAD_KEY));
+    check_lookup("plus at key's end", FIRST, 35, 0, "VIN+", refused(COMALTZEX_BAD_KEY));
+    check_lookup("bad key, no heading", FIRST, 35, 1, "VIN+", refused(COMALTZEX_BAD_KEY));
+    check_lookup("no heading", FIRST, 35, 1, "VIN", refused(COMALTZEX_NO_HEADING));
+    check_lookup("past the end", FIRST, 35, 36, "VIN", refused(COMALTZEX_NO_HEADING));
+    check_lookup("other key", FIRST, 35, 0, "FUEL", refused(COMALTZEX_NO_KEY));
 }
 
 static void closers(void)
@@ -223,7 +215,7 @@ static void text_limit(void)
     memset(book, 'x', sizeof(book));
     check_read("65,536 bytes", book, sizeof(book) - 1, LENGTH(table), COMALTZEX_OK, 3);
     check_read("65,537 bytes", book, sizeof(book), LENGTH(table), COMALTZEX_TOO_LONG, 0);
-    check_lookup("lookup in 65,537 bytes", book, sizeof(book), 0, "", COMALTZEX_TOO_LONG, 0, 0);
+    check_lookup("lookup in 65,537 bytes", book, sizeof(book), 0, "", refused(COMALTZEX_TOO_LONG));
 }
 
 /* Writes depth blocks, each in the one before, and gives the text's length. */

@@ -3,7 +3,7 @@
 use crate::RECORD_SIZE;
 
 /// `COMALTZEX_VERSION` of the header.
-const VERSION: u32 = 4;
+const VERSION: u32 = 5;
 
 /// The numbers of an answer, as in `comaltzex.h`.
 pub(crate) mod number {
@@ -15,6 +15,9 @@ pub(crate) mod number {
     pub(crate) const NO_DRAWER: u32 = 5;
     pub(crate) const NO_KEY: u32 = 6;
     pub(crate) const BAD_KEY: u32 = 7;
+    pub(crate) const BLANK_FIRST: u32 = 8;
+    pub(crate) const NOT_PROPERTY: u32 = 9;
+    pub(crate) const NOT_CLOSED: u32 = 10;
     pub(crate) const NO_DAY: u32 = 11;
 }
 
@@ -42,6 +45,7 @@ pub(crate) struct Part {
     pub(crate) number: u32,
     pub(crate) start: usize,
     pub(crate) end: usize,
+    pub(crate) further: usize,
 }
 
 /// `comaltzex_closer` of the header.
@@ -149,12 +153,18 @@ extern "C" {
     fn comaltzex_version() -> u32;
 }
 
-pub(crate) fn read(text: &[u8], table: &mut [u32]) -> Reading {
+/// That the library is the one this crate is for: the structs of another may have
+/// other sizes.
+fn assert_version() {
     debug_assert_eq!(
         (version(), record_size()),
         (VERSION, RECORD_SIZE),
         "the library has another version or record size than this crate"
     );
+}
+
+pub(crate) fn read(text: &[u8], table: &mut [u32]) -> Reading {
+    assert_version();
     // SAFETY: each pointer and length are those of one slice, so the pointers are
     // not null and the borrows keep both slices alive and apart. The library
     // stays within these lengths, writes only the table and keeps no pointer.
@@ -162,26 +172,31 @@ pub(crate) fn read(text: &[u8], table: &mut [u32]) -> Reading {
 }
 
 pub(crate) fn lookup(text: &[u8], at: usize, key: &[u8]) -> Part {
+    assert_version();
     // SAFETY: as in `read`; the library writes nothing, and `at` may be any number.
     unsafe { comaltzex_lookup(text.as_ptr(), text.len(), at, key.as_ptr(), key.len()) }
 }
 
 pub(crate) fn find_closer(text: &[u8], at: usize, end: usize) -> Closer {
+    assert_version();
     // SAFETY: as in `lookup`; `end` too may be any number.
     unsafe { comaltzex_find_closer(text.as_ptr(), text.len(), at, end) }
 }
 
 pub(crate) fn timestamp(text: &[u8], at: usize) -> FoundStamp {
+    assert_version();
     // SAFETY: as in `lookup`.
     unsafe { comaltzex_timestamp(text.as_ptr(), text.len(), at) }
 }
 
 pub(crate) fn planning(text: &[u8], at: usize) -> Plan {
+    assert_version();
     // SAFETY: as in `lookup`.
     unsafe { comaltzex_planning(text.as_ptr(), text.len(), at) }
 }
 
 pub(crate) fn days_between(first: Date, second: Date) -> Days {
+    assert_version();
     let (year, month, day) = (first.year, first.month, first.day);
     // SAFETY: the function takes numbers, any numbers, and touches no memory of the
     // caller's.
@@ -212,6 +227,7 @@ mod tests {
 
     #[test]
     fn structs_have_the_sizes_of_c() {
+        assert_eq!(size_of::<Part>(), 32);
         assert_eq!(size_of::<Date>(), 12);
         assert_eq!(size_of::<Moment>(), 60);
         assert_eq!(size_of::<Stamp>(), 124);

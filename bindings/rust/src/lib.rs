@@ -2,8 +2,9 @@
 //!
 //! A text is read into a table of [`Record`]s: the document first, then each
 //! record followed at once by all that it holds. A lookup finds one property of
-//! one heading, in that heading's own property drawer. A text is bytes and need
-//! not be UTF-8; every place is a byte offset into it.
+//! one heading, in that heading's own property drawer; its [`LookupRefusal`] says
+//! why there is none, and which line to mend. A text is bytes and need not be
+//! UTF-8; every place is a byte offset into it.
 //!
 //! ```
 //! use comaltzex::{Kind, LookupRefusal, Table};
@@ -42,7 +43,9 @@ mod closer;
 mod dates;
 #[allow(unsafe_code)]
 mod ffi;
+mod lines;
 mod lookup;
+mod mend;
 mod planning;
 mod record;
 mod refusal;

@@ -55,13 +55,30 @@ pub enum LookupRefusal {
     TooLong,
     /// No heading line starts at that byte.
     NoHeading,
-    /// That heading has no property drawer.
+    /// That heading has no property drawer, and neither
+    /// [`BlankFirst`](LookupRefusal::BlankFirst),
+    /// [`NotClosed`](LookupRefusal::NotClosed) nor
+    /// [`NotProperty`](LookupRefusal::NotProperty) says why.
     NoDrawer,
     /// The heading's property drawer has no line with that key.
     NoKey,
     /// The key is empty, longer than [`KEY_LIMIT`](crate::KEY_LIMIT), holds a blank
     /// or a line end, or ends in `+`.
     BadKey,
+    /// `:PROPERTIES:` is the first line that is not blank after the heading line, or
+    /// after its planning line, but blank lines stand above it.
+    BlankFirst,
+    /// `:PROPERTIES:` stands in its place, but no `:END:` follows before the next
+    /// heading line.
+    NotClosed,
+    /// `:PROPERTIES:` stands in its place and `:END:` follows, but a line between
+    /// them is no property: it is blank, or something else. This is the first.
+    NotProperty {
+        /// The line's first byte, its indentation included.
+        start: usize,
+        /// The line, counted from 0 as in [`Record::line`](crate::Record::line).
+        line: usize,
+    },
 }
 
 impl LookupRefusal {
@@ -73,21 +90,34 @@ impl LookupRefusal {
             LookupRefusal::NoDrawer => number::NO_DRAWER,
             LookupRefusal::NoKey => number::NO_KEY,
             LookupRefusal::BadKey => number::BAD_KEY,
+            LookupRefusal::BlankFirst => number::BLANK_FIRST,
+            LookupRefusal::NotClosed => number::NOT_CLOSED,
+            LookupRefusal::NotProperty { .. } => number::NOT_PROPERTY,
         }
     }
 }
 
 impl Display for LookupRefusal {
     fn fmt(&self, f: &mut Formatter<'_>) -> fmt::Result {
-        f.write_str(match self {
-            LookupRefusal::TooLong => TOO_LONG,
-            LookupRefusal::NoHeading => NO_HEADING,
-            LookupRefusal::NoDrawer => "this heading has no property drawer",
-            LookupRefusal::NoKey => "this heading's property drawer has no line with this key",
-            LookupRefusal::BadKey => {
-                "a key has 1 to 64 bytes, no blanks or line ends, and no `+` at its end"
+        match self {
+            LookupRefusal::TooLong => f.write_str(TOO_LONG),
+            LookupRefusal::NoHeading => f.write_str(NO_HEADING),
+            LookupRefusal::NoDrawer => f.write_str("this heading has no property drawer"),
+            LookupRefusal::NoKey => {
+                f.write_str("this heading's property drawer has no line with this key")
             }
-        })
+            LookupRefusal::BadKey => f.write_str(
+                "a key has 1 to 64 bytes, no blanks or line ends, and no `+` at its end",
+            ),
+            LookupRefusal::BlankFirst => {
+                f.write_str("a blank line stands above the property drawer")
+            }
+            LookupRefusal::NotClosed => f.write_str("the property drawer is never closed"),
+            LookupRefusal::NotProperty { line, .. } => {
+                let line = line.saturating_add(1); // an editor counts from 1
+                write!(f, "line {line} is no property")
+            }
+        }
     }
 }
 

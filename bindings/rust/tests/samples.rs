@@ -222,7 +222,7 @@ fn lookups() {
         lookup(b"* A\n:PROPERTIES:\n:VIN:\n:END:\n", 0, b"VIN"),
         Ok(22..22)
     );
-    assert_eq!(lookup(SECOND, 0, b"VIN"), Err(LookupRefusal::NoDrawer));
+    assert_eq!(lookup(SECOND, 0, b"VIN"), Err(LookupRefusal::BlankFirst));
     assert_eq!(lookup(FIRST, 0, b"FUEL"), Err(LookupRefusal::NoKey));
     for at in [1, 4, FIRST.len(), usize::MAX] {
         assert_eq!(lookup(FIRST, at, b"VIN"), Err(LookupRefusal::NoHeading));

@@ -80,6 +80,21 @@ fn long_lookup() {
 }
 
 #[test]
+fn long_refused_lookups() {
+    let refused = |start: &[u8], again: &str, end: &[u8]| {
+        let mut text = filled(again);
+        text[..start.len()].copy_from_slice(start);
+        text[TEXT_LIMIT - end.len()..].copy_from_slice(end);
+        let refusal = on_a_small_stack(move || lookup(&text, 0, b"b")).unwrap_err();
+        refusal.number()
+    };
+    let opened = b"* a\n:properties:\n:a:";
+    assert_eq!(refused(b"* a", "\n", b":properties:"), 8);
+    assert_eq!(refused(opened, ":a:\n", b":a:\n"), 10);
+    assert_eq!(refused(opened, ":a:\n", b"x\n:end:"), 9);
+}
+
+#[test]
 fn long_search() {
     let text = filled(":a:\n");
     let search = on_a_small_stack(move || find_closer(&text, 0, TEXT_LIMIT));

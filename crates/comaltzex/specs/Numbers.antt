@@ -31,7 +31,7 @@ use Rattle.comaltzex.specs.declared.ClosingLine.{ClosingLine}
 
 -- the version of the interface: another one whenever an answer, the record's width or a function's signature changes, or a function is added
 abbrev pub version : ℕ
-version = 4
+version = 5
 
 -- a closer in numbers: whether there is one, and its line's ends; all 0 where there is none
 abbrev pub foundNumber : Closer → ℕ
@@ -58,6 +58,7 @@ pub record LooksUpAs (s : List ℕ) (p : ℕ) (k : List ℕ) (r : Value) : Type 
   pub number : r .number ≡ Lookup.number (Lookup.lookup s p k)
   pub start : r .start ≡ Lookup.start (Lookup.lookup s p k)
   pub end : r .end ≡ Lookup.end (Lookup.lookup s p k)
+  pub further : r .further ≡ Lookup.further (Lookup.lookup s p k)
   pub tied : Tied s p k (Lookup.lookup s p k)
 
 -- a search from byte p in a container that ends at byte e of text s answers r

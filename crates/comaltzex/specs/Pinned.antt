@@ -1,4 +1,5 @@
--- Timestamps in numbers, held to cases worked out by hand.
+-- Lookups, timestamps and planning lines in numbers, held to cases worked out by hand.
+use mathlib.Core.Path.{_≡_}
 use mathlib.Core.List.{List, [], _∷_, _++_}
 use Prim.Native.Nat.{ℕ}
 use Prim.Native.String.{String}
@@ -9,10 +10,16 @@ use Rattle.dates.specs.Planning.{OpenPlanning}
 use Rattle.table.specs.Reading.{OpenReading}
 use Rattle.lookup.specs.Stages.{headingAt}
 use Rattle.lookup.specs.Planning.{bodyAfter, planning}
-use Rattle.comaltzex.specs.Numbers.{stampAt, planAt}
+use Rattle.comaltzex.specs.Numbers.{LooksUpAs, stampAt, planAt}
+use Rattle.comaltzex.specs.declared.Value.{Value}
 use Rattle.comaltzex.specs.declared.stamp.IntervalNumbers.{IntervalNumbers}
 use Rattle.comaltzex.specs.declared.stamp.MomentNumbers.{MomentNumbers}
 use Rattle.comaltzex.specs.declared.stamp.Stamp.{Stamp}
+
+-- whatever answers a lookup of a VIN under the first heading line of a text has a number, a part and a further number
+infix 100 _answers_from_to_and_
+abbrev pub _answers_from_to_and_ : String → ℕ → ℕ → ℕ → ℕ → Type 0
+w answers n from a to e and q = (r : Value) → LooksUpAs (word w) 0 (word "VIN") r → (r .number ≡ n) × (r .start ≡ a) × (r .end ≡ e) × (r .further ≡ q)
 
 -- the numbers of a date in their order: the date, the time, the repeater, the delay, and whether the delay stands first
 unfoldable pub intervalList : IntervalNumbers → List ℕ

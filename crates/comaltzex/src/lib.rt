@@ -28,7 +28,7 @@ use table::record;
 use text::number;
 
 // The version of this interface, as specs/Numbers has it.
-const VERSION: u32 = 4;
+const VERSION: u32 = 5;
 
 // Both ends of a line that was not found.
 const NOWHERE: usize = 0;
@@ -40,12 +40,13 @@ pub struct Reading {
     pub count: usize,
 }
 
-// The number of a lookup's answer and the value's two ends.
+// The number of a lookup's answer, the value's two ends, and a further number.
 #[repr(C)]
 pub struct Value {
     pub number: u32,
     pub start: usize,
     pub end: usize,
+    pub further: usize,
 }
 
 // Reads a text into a lent table.
@@ -81,23 +82,28 @@ pub extern "C" fn comaltzex_lookup(text: &[u8], at: usize, key: &[u8]) -> Value
             number: number::DONE,
             start: a,
             end: e,
+            further: 0,
         },
-        Lookup::TooLong => refused(number::TOO_LONG),
-        Lookup::NoHeading => refused(number::NO_HEADING),
-        Lookup::NoDrawer => refused(number::NO_DRAWER),
-        Lookup::NoKey => refused(number::NO_KEY),
-        Lookup::BadKey => refused(number::BAD_KEY),
+        Lookup::TooLong => refused(number::TOO_LONG, 0),
+        Lookup::NoHeading => refused(number::NO_HEADING, 0),
+        Lookup::BlankFirst => refused(number::BLANK_FIRST, 0),
+        Lookup::NotClosed => refused(number::NOT_CLOSED, 0),
+        Lookup::NotProperty(line) => refused(number::NOT_PROPERTY, line),
+        Lookup::NoDrawer => refused(number::NO_DRAWER, 0),
+        Lookup::NoKey => refused(number::NO_KEY, 0),
+        Lookup::BadKey => refused(number::BAD_KEY, 0),
     }
 }
 
 // A refusal: the empty part at byte 0.
-fn refused(number: u32) -> Value
-    ensures { λ r. ⌜ r ≡ record { number = number; start = 0; end = 0 } ⌝ }
+fn refused(number: u32, further: usize) -> Value
+    ensures { λ r. ⌜ r ≡ record { number = number; start = 0; end = 0; further = further } ⌝ }
 {
     Value {
         number: number,
         start: 0,
         end: 0,
+        further: further,
     }
 }
 

@@ -1,4 +1,6 @@
 pub mod Keys
+pub mod Drawers
+pub mod DrawersFound
 pub mod Stages
 pub mod Finding
 pub mod Lookup

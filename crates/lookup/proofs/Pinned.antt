@@ -1,11 +1,19 @@
 -- The cases of specs/Pinned are right, by computation.
 use mathlib.Core.Path.{refl}
 use Rattle.text.specs.Cases.{Right}
-use Rattle.lookup.specs.Pinned.{lookupCases, planningCases, OpenLookupCases}
+use Rattle.lookup.specs.Pinned.{lookupCases, reasonCases, conditionCases, planningCases, OpenLookupCases}
 
 pub lookups-pinned : Right lookupCases
 unfolding OpenLookupCases
 lookups-pinned = refl
+
+pub reasons-pinned : Right reasonCases
+unfolding OpenLookupCases
+reasons-pinned = refl
+
+pub conditions-pinned : Right conditionCases
+unfolding OpenLookupCases
+conditions-pinned = refl
 
 pub planning-pinned : Right planningCases
 unfolding OpenLookupCases

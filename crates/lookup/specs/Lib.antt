@@ -1,3 +1,4 @@
+pub mod Drawers
 pub mod Stages
 pub mod Lookup
 pub mod Planning

@@ -3,14 +3,9 @@ ghost use mathlib.Core.Bool.{false};
 ghost use Prim.Native.Nat.{_≤_};
 ghost use lib.ListN.{length};
 ghost use Rattle.text.specs.Parts.{linesIn};
-ghost use Rattle.rules.specs.declared.place.Place.the-variants.{AfterHeading};
-ghost use Rattle.lookup.specs.Stages.{isBadKey, headingAt, drawerAt, drawerAfter, valueIn};
-use rules::closer::Closer;
+ghost use Rattle.lookup.specs.Stages.{isBadKey, headingAt, valueIn};
 use rules::heading::heading_stars;
-use rules::heading::next_heading;
-use rules::planning::is_planning;
 use rules::property::Property;
-use rules::property::find_properties_end;
 use rules::property::property_at;
 use text::bytes::Class;
 use text::bytes::run_end;
@@ -24,12 +19,6 @@ use text::word::is_word;
 // The first byte after a heading line.
 pub enum Heading {
     Before(usize),
-    Missing,
-}
-
-// The lines of a property drawer, from a byte to a byte.
-pub enum Drawer {
-    Lines(usize, usize),
     Missing,
 }
 
@@ -68,46 +57,6 @@ pub fn find_heading(text: &[u8], at: usize) -> Heading
         return Heading::Missing;
     }
     Heading::Before(line_end(text, at, end))
-}
-
-// The property drawer that stands at a byte, in a section that ends at a byte.  [01 rule 2]
-fn find_drawer_at(text: &[u8], at: usize, to: usize) -> Drawer
-    requires { ⌜ (at ≤ to) × (to ≤ length (now text)) ⌝ }
-    ensures { λ r. ⌜ r ≡ drawerAt AfterHeading (now (text .entry)) at to ⌝ }
-{
-    if to <= at {
-        return Drawer::Missing;
-    }
-    let opener = line_at(text, at, to);
-    if !is_word(text, opener.from, opener.to, b":properties:") {
-        return Drawer::Missing;
-    }
-    let inner = opener.end;
-    let Closer::At {
-        start,
-        end: _,
-        before: _,
-    } = find_properties_end(text, inner, to)
-    else {
-        return Drawer::Missing;
-    };
-    Drawer::Lines(inner, start)
-}
-
-// The property drawer of the heading whose line ends at a byte: right after that line or its planning line.  [01 rule 2]
-pub fn find_drawer(text: &[u8], from: usize) -> Drawer
-    requires { ⌜ from ≤ length (now text) ⌝ }
-    ensures { λ r. ⌜ r ≡ drawerAfter (now (text .entry)) from ⌝ }
-{
-    let to = next_heading(text, from, text.len());
-    if to <= from {
-        return Drawer::Missing;
-    }
-    let line = line_at(text, from, to);
-    if is_planning(text, line, to) {
-        return find_drawer_at(text, line.end, to);
-    }
-    find_drawer_at(text, from, to)
 }
 
 // The value of the first line with a key.

@@ -8,7 +8,7 @@ use Rattle.text.specs.Cases.{Case, case, OpenCases}
 use Rattle.table.specs.Records.{rec, recordSize}
 use Rattle.table.specs.Cases.{_reads_, _kinds_, OpenTableCases}
 use Rattle.reading.specs.Cases.{_room_answers_with_, OpenReadingCases}
-use Rattle.lookup.specs.Pinned.{_at_key_answers_from_to_, OpenLookupCases}
+use Rattle.lookup.specs.Pinned.{_at_key_answers_from_to_and_, OpenLookupCases}
 use Rattle.orgtable.specs.Printed.{printed, printedText, OpenPrinted}
 
 -- a text is of n bytes; with room for n records this is printed for it
@@ -25,7 +25,7 @@ infix 100 _returning_refuses_
 unfoldable pub _returning_refuses_ : ℕ → ℕ → String → Case
 n returning c refuses v = case v (printed n c []) (word v)
 
--- an order with its drawer, and the same with an empty line above the drawer
+-- an order with its drawer, and the same with an empty line above the drawer, which a lookup now answers with 8  [02 order 2]
 abbrev pub order : String
 order = "* A\n:PROPERTIES:\n:VIN: 7\n:END:\n\nhi\n"
 
@@ -47,13 +47,13 @@ samples =
     ∷ order room 5 answers 3 with 6
     ∷ order room 6 prints
     "1 0 35 0 35 0 0 0\n2 0 35 4 35 0 1 0\n3 4 35 4 35 1 0 1\n5 4 32 17 25 2 0 1\n6 17 25 23 24 3 0 2\n16 32 35 32 35 2 0 5\n"
-    ∷ order at 0 key "vin" answers 0 from 23 to 24
+    ∷ order at 0 key "vin" answers 0 from 23 to 24 and 0
     ∷ 1 returning 0 refuses "refused 1\n"
     ∷ 2 returning 0 refuses "refused 2\n"
     ∷ order room 5 prints "refused 3 6\n"
     ∷ drawerApart bytes 32
     ∷ drawerApart kinds (1 ∷ 2 ∷ 3 ∷ 7 ∷ 16 ∷ [])
-    ∷ drawerApart at 0 key "vin" answers 5 from 0 to 0
+    ∷ drawerApart at 0 key "vin" answers 8 from 0 to 0 and 0
     ∷ "#+begin_src\n* A\n#+end_src\n" bytes 26
     ∷ "#+begin_src\n* A\n#+end_src\n" kinds (1 ∷ 3 ∷ 16 ∷ 2 ∷ 3 ∷ 16 ∷ [])
     ∷ "" reads (rec 1 0 0 0 0 0 0 0 ∷ [])

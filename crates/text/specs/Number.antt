@@ -1,4 +1,4 @@
--- The numbers of an answer  [01 "Numbers of an answer", 02 order 1].
+-- The numbers of an answer  [01 "Numbers of an answer", 02 orders 1 and 2].
 use Prim.Native.Nat.{ℕ}
 
 abbrev pub done : ℕ
@@ -24,6 +24,15 @@ noKey = 6
 
 abbrev pub badKey : ℕ
 badKey = 7
+
+abbrev pub blankFirst : ℕ
+blankFirst = 8
+
+abbrev pub notProperty : ℕ
+notProperty = 9
+
+abbrev pub notClosed : ℕ
+notClosed = 10
 
 abbrev pub noDay : ℕ
 noDay = 11

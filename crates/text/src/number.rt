@@ -15,4 +15,10 @@ pub const NO_KEY: u32 = 6;
 
 pub const BAD_KEY: u32 = 7;
 
+pub const BLANK_FIRST: u32 = 8;
+
+pub const NOT_PROPERTY: u32 = 9;
+
+pub const NOT_CLOSED: u32 = 10;
+
 pub const NO_DAY: u32 = 11;

@@ -310,18 +310,24 @@ fn date(word: &str) -> Result<Date, String> {
 }
 
 fn lookup_expectation(rest: &str) -> Result<Expectation, String> {
-    let form = "lookup AT \"KEY\" -> NUMBER START END";
+    let form = "lookup AT \"KEY\" -> NUMBER START END, perhaps further FURTHER, perhaps \"VALUE\"";
     let (call, answer) = rest.split_once(" -> ").ok_or(form)?;
     let (at, key) = call.split_once(' ').ok_or(form)?;
     let (answer, value) = match answer.split_once(" \"") {
         Some((answer, value)) => (answer, Some(format!("\"{value}"))),
         None => (answer, None),
     };
+    let (answer, further) = answer.split_once(" further ").unwrap_or((answer, "0"));
     let [given, start, end] = words(answer)?;
     Ok(Expectation::Lookup {
         at: number(at)?,
         key: quoted(key)?,
-        answer: (number(given)?, number(start)?, number(end)?),
+        answer: (
+            number(given)?,
+            number(start)?,
+            number(end)?,
+            number(further)?,
+        ),
         value: value.map(|value| quoted(&value)).transpose()?,
     })
 }
@@ -370,6 +376,46 @@ mod tests {
 
     fn numbers(line: &str, text: &[u8]) -> Result<Vec<u32>, String> {
         expected_record(line).map(|record| record.numbers(text))
+    }
+
+    fn lookup_answer(rest: &str) -> Result<LookupAnswer, String> {
+        match lookup_expectation(rest)? {
+            Expectation::Lookup { answer, .. } => Ok(answer),
+            _ => Err("no lookup".to_string()),
+        }
+    }
+
+    #[test]
+    fn a_further_number_left_out_is_0() {
+        assert_eq!(lookup_answer("0 \"a\" -> 5 0 0"), Ok((5, 0, 0, 0)));
+        assert_eq!(lookup_answer("0 \"a\" -> 0 3 4 \"x\""), Ok((0, 3, 4, 0)));
+    }
+
+    #[test]
+    fn a_written_further_number_stays() {
+        assert_eq!(
+            lookup_answer("0 \"a\" -> 9 0 0 further 17"),
+            Ok((9, 0, 0, 17))
+        );
+        assert_eq!(
+            lookup_answer("0 \"a\" -> 0 3 4 further 1 \"x\""),
+            Ok((0, 3, 4, 1))
+        );
+    }
+
+    #[test]
+    fn a_lookup_of_another_form_is_refused() {
+        for answer in [
+            "9 0 0 17",
+            "9 0 0 further",
+            "9 0 0 further x",
+            "9 0 further 17",
+        ] {
+            assert!(
+                lookup_answer(&format!("0 \"a\" -> {answer}")).is_err(),
+                "{answer}"
+            );
+        }
     }
 
     #[test]

@@ -3,10 +3,11 @@
 use plain_reader::{Reading, Record, NUMBERS_OF_A_RECORD};
 
 use crate::dates::{check_dates, DateTally};
+use crate::drawers::{self, check_drawers, Lookup};
 use crate::escape::escape;
 use crate::proper::check_proper;
 use crate::random::Random;
-use crate::searches::{check_searches, Met};
+use crate::searches::{self, check_searches};
 use crate::subject::{fresh_table, LIBRARY, PLAIN_READER};
 use crate::words::{BAD_KEYS, KEYS};
 
@@ -20,13 +21,14 @@ pub const SMALL: usize = 400;
 const NODE_PROPERTY: u32 = 6;
 
 /// How many answers of each number and records of each kind the plain reader gave, and how many of
-/// its searches for closers and its answers about dates met what.
+/// its lookups, its searches for closers and its answers about dates met what.
 #[derive(Default)]
 pub struct Tally {
     pub readings: [usize; 4],
-    pub lookups: [usize; 8],
+    pub lookups: [usize; 11],
+    pub drawers: drawers::Met,
     pub kinds: [usize; 17],
-    pub searches: Met,
+    pub searches: searches::Met,
     pub dates: DateTally,
 }
 
@@ -46,6 +48,7 @@ pub fn check(text: &[u8], random: &mut Random, tally: &mut Tally) -> Result<(), 
     let keys = property_keys(text, records);
     check_lookups_at_headings(text, &keys, random, tally)?;
     check_lookups_elsewhere(text, random, tally)?;
+    check_drawers(text, records)?;
     check_searches(text, records, random, &mut tally.searches)?;
     check_dates(text, random, &mut tally.dates)
 }
@@ -110,6 +113,12 @@ fn check_lookup(text: &[u8], at: usize, key: &[u8], tally: &mut Tally) -> Result
     let expected = (PLAIN_READER.lookup)(text, at, key);
     let seen = (LIBRARY.lookup)(text, at, key);
     tally.lookups[expected.0 as usize] += 1;
+    let lookup = Lookup {
+        text,
+        at,
+        answer: expected,
+    };
+    lookup.count(&mut tally.drawers);
     if expected == seen {
         return Ok(());
     }

@@ -4,6 +4,7 @@
 pub mod case;
 pub mod check;
 pub mod dates;
+pub mod drawers;
 pub mod escape;
 pub mod library;
 pub mod proper;

@@ -13,6 +13,7 @@ struct LookupAnswer {
     number: u32,
     start: usize,
     end: usize,
+    further: usize,
 }
 
 #[repr(C)]
@@ -87,12 +88,13 @@ pub fn read(text: &[u8], table: &mut [u32]) -> (u32, usize) {
     (answer.number, answer.count)
 }
 
-/// Looks `key` up at byte `at`; gives the answer's number and the value's two ends.
-pub fn lookup(text: &[u8], at: usize, key: &[u8]) -> (u32, usize, usize) {
+/// Looks `key` up at byte `at`; gives the answer's number, the value's two ends and the further
+/// number.
+pub fn lookup(text: &[u8], at: usize, key: &[u8]) -> (u32, usize, usize, usize) {
     // SAFETY: both pointers come with the length of the slice they belong to.
     let answer =
         unsafe { comaltzex_lookup(text.as_ptr(), text.len(), at, key.as_ptr(), key.len()) };
-    (answer.number, answer.start, answer.end)
+    (answer.number, answer.start, answer.end, answer.further)
 }
 
 /// Finds the closer of the opener at byte `at` before byte `end`; gives whether it is found, its

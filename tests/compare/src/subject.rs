@@ -7,8 +7,8 @@ use crate::library;
 /// The answer of a reading call: its number and its count.
 pub type ReadAnswer = (u32, usize);
 
-/// The answer of a lookup: its number and the two ends of its part.
-pub type LookupAnswer = (u32, usize, usize);
+/// The answer of a lookup: its number, the two ends of its part and the further number.
+pub type LookupAnswer = (u32, usize, usize, usize);
 
 /// The answer of a search for a closer: is it found (1, else 0), the two ends of its line, and how
 /// many lines were compared.

@@ -32,6 +32,8 @@ const SAMPLES: &[&[u8]] = &[
     b"\n# note\n:PROPERTIES:\n:a: 1\n:END:\n# note\n#+title: x\n-----\n: fixed\n",
     b"#+begin_quote\n:LOG:\n#+begin_src c\n:END:\n#+end_src\n:END:\n#+end_quote\n",
     b"** B\n:LOG:\n\ntext\n\n:END:\n\n* C\n:PROPERTIES:\n:END: x\n:END:\n:END:\n",
+    b"* A\nCLOSED: [2026-01-05]\n\n:PROPERTIES:\n:VIN: 7\n* B\n\n* C\n:PROPERTIES:\n:END:\nx\n:END:\n",
+    b"* A\n:PROPERTIES:\n:VIN: 7\n  x\n\n:END:\n* B\n:PROPERTIES:\n:a: 1\n** C\n:END:\n",
 ];
 
 const BOOK: &[u8] = include_bytes!("../../books/orders.org");
@@ -100,17 +102,15 @@ fn add_part(text: &mut Vec<u8>, random: &mut Random, levels: usize) {
 
 /// A heading, perhaps planning, perhaps a property drawer; now and then a line slips between.
 fn add_order(text: &mut Vec<u8>, random: &mut Random) {
-    let heading = heading_line(random);
-    text.extend(heading);
-    text.push(b'\n');
+    add_heading(text, random);
     if random.chance(10) {
-        add_blank_lines(text, random);
+        add_slip(text, random);
     }
     if random.chance(50) {
         add_line(text, planning_body(random), random);
     }
-    if random.chance(6) {
-        add_any_line(text, random);
+    if random.chance(15) {
+        add_slip(text, random);
     }
     if random.chance(80) {
         add_property_drawer(text, random);
@@ -120,13 +120,27 @@ fn add_order(text: &mut Vec<u8>, random: &mut Random) {
 fn add_property_drawer(text: &mut Vec<u8>, random: &mut Random) {
     add_line(text, b":PROPERTIES:".to_vec(), random);
     for _ in 0..random.below(4) {
-        if random.chance(4) {
-            add_any_line(text, random);
+        if random.chance(5) {
+            add_slip(text, random);
         }
         add_line(text, node_property_body(random), random);
     }
-    if random.chance(93) {
+    if random.chance(90) {
         add_line(text, b":END:".to_vec(), random);
+    }
+}
+
+/// What does not belong between the parts of an order: blank lines, any line, planning, a heading.
+fn add_slip(text: &mut Vec<u8>, random: &mut Random) {
+    match random.below(10) {
+        0..4 => add_blank_lines(text, random),
+        4..6 => add_any_line(text, random),
+        6 | 7 => add_line(text, planning_body(random), random),
+        8 => add_heading(text, random),
+        _ => {
+            add_blank_lines(text, random);
+            add_heading(text, random);
+        }
     }
 }
 
@@ -179,11 +193,11 @@ fn add_any_line(text: &mut Vec<u8>, random: &mut Random) {
     add_line(text, body, random);
 }
 
-fn heading_line(random: &mut Random) -> Vec<u8> {
-    let mut line = vec![b'*'; random.between(1, 4)];
-    line.push(if random.chance(95) { b' ' } else { b'\t' });
-    line.extend(random.pick(TITLES));
-    line
+fn add_heading(text: &mut Vec<u8>, random: &mut Random) {
+    text.resize(text.len() + random.between(1, 4), b'*');
+    text.push(if random.chance(95) { b' ' } else { b'\t' });
+    text.extend(random.pick(TITLES));
+    text.push(b'\n');
 }
 
 fn node_property_body(random: &mut Random) -> Vec<u8> {

@@ -12,6 +12,7 @@
 //! | "A record", "Headings and sections first"; order 7 | `reading` |
 //! | "Numbers of an answer" | `answer`, `lookup` |
 //! | order 1 | `stamp`, `numbers`, `planning`, `days`; rule 1 in `rules` |
+//! | order 2 | `lookup` |
 //! | order 3 | `closer` |
 
 mod answer;

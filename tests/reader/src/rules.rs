@@ -80,14 +80,18 @@ fn is_right_after_heading(lines: &[Line], at: usize) -> bool {
 
 /// Rule 2: "Body `:PROPERTIES:`, then node property lines only (none is allowed), then body
 /// `:END:`. The first end line closes."
-pub fn property_drawer_closer(lines: &[Line], at: usize, end: usize) -> Option<usize> {
-    if !same_letters(lines[at].body, b":PROPERTIES:") || !is_property_drawer_place(lines, at) {
+fn property_drawer_closer(lines: &[Line], at: usize, end: usize) -> Option<usize> {
+    if !is_property_drawer_opener(&lines[at]) || !is_property_drawer_place(lines, at) {
         return None;
     }
     let closer = first_end_line(lines, at + 1, end)?;
     let between = &lines[at + 1..closer];
     let only_properties = between.iter().all(|line| node_property(line).is_some());
     only_properties.then_some(closer)
+}
+
+pub fn is_property_drawer_opener(line: &Line) -> bool {
+    same_letters(line.body, b":PROPERTIES:")
 }
 
 /// Rule 2: "only right after a heading line or its planning line with no blank line between; or as

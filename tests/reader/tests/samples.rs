@@ -1,5 +1,5 @@
-//! Document 01, "Sample readings", with the line numbers of document 02, order 7; searches for
-//! closers, order 3.
+//! Document 01, "Sample readings", with what document 02 changed in them: line numbers by order 7, the
+//! lookup's numbers by order 2; searches for closers, order 3.
 
 use plain_reader::{answer, closer_search, lookup, read, Reading, NUMBERS_OF_A_RECORD};
 
@@ -44,7 +44,7 @@ fn an_order_with_its_drawer() {
         [16, 32, 35, 32, 35, 2, 0, 5],
     ];
     assert_eq!(table(&text), expected);
-    assert_eq!(lookup(&text, 0, b"vin"), (0, 23, 24));
+    assert_eq!(lookup(&text, 0, b"vin"), (0, 23, 24, 0));
 }
 
 #[test]
@@ -52,7 +52,7 @@ fn a_blank_line_above_the_drawer() {
     let text = book(&["* A", "", ":PROPERTIES:", ":VIN: 7", ":END:"]);
     assert_eq!(text.len(), 32);
     assert_eq!(kinds(&text), [1, 2, 3, 7, 16]);
-    assert_eq!(lookup(&text, 0, b"vin"), (5, 0, 0));
+    assert_eq!(lookup(&text, 0, b"vin"), (8, 0, 0, 0));
 }
 
 #[test]
@@ -98,7 +98,7 @@ fn the_longest_text() {
     assert_eq!(kinds(&[b'a'; 65_536]), [1, 3, 16]);
     assert_eq!(read(&[b'a'; 65_537]), Reading::TooLong);
     assert_eq!(answer(&[b'a'; 65_537], &mut []), (1, 0));
-    assert_eq!(lookup(&[b'a'; 65_537], 0, b""), (1, 0, 0));
+    assert_eq!(lookup(&[b'a'; 65_537], 0, b""), (1, 0, 0, 0));
 }
 
 #[test]
@@ -166,9 +166,9 @@ mod easy_wrong_turns {
     #[test]
     fn no_identity_from_an_outer_or_earlier_heading() {
         let text = book(&["* A", ":PROPERTIES:", ":VIN: 7", ":END:", "** B", "* C"]);
-        assert_eq!(lookup(&text, 0, b"VIN"), (0, 23, 24));
-        assert_eq!(lookup(&text, 31, b"VIN"), (5, 0, 0));
-        assert_eq!(lookup(&text, 36, b"VIN"), (5, 0, 0));
+        assert_eq!(lookup(&text, 0, b"VIN"), (0, 23, 24, 0));
+        assert_eq!(lookup(&text, 31, b"VIN"), (5, 0, 0, 0));
+        assert_eq!(lookup(&text, 36, b"VIN"), (5, 0, 0, 0));
     }
 
     #[test]

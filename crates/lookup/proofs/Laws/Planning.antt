@@ -20,7 +20,7 @@ use Rattle.lookup.specs.declared.stages.Heading.the-variants.{Before, Mi
 use Rattle.lookup.specs.declared.planning.Answer.the-variants.{Found, TooLong, NoHeading}
 use Rattle.lookup.specs.Stages.{headingAt}
 use Rattle.lookup.specs.Planning.{bodyAfter, planning, BodyAfter}
-use Rattle.lookup.proofs.Laws.Finding.{section-end, section-order}
+use Rattle.lookup.proofs.Laws.DrawersFound.{section-end, section-order}
 
 -- the section of the heading whose line ends at byte p ends at byte e, where `next_heading` finds its end
 module _ (s : List ℕ) (p : ℕ) (h : p ≤ length s) (e : ℕ) (i : e ≡ nextLine (isHeadingUpTo (length s)) s p) where

@@ -3,7 +3,6 @@
 use mathlib.Core.Path.{_≡_, refl, sym, ap, _∙_}
 use mathlib.Core.Bool.{true, false, _&&_, true≢false, false≢true}
 use mathlib.Core.List.{List, [], _∷_}
-use mathlib.Core.Option.{none, some}
 use Prim.Native.Nat.{ℕ, zero, suc, _+_, _-_, _≤_, _<_}
 use native.Mathlib.Omega.{arith}
 use native.Mathlib.Nat.{add-zero, add-assoc}
@@ -12,25 +11,18 @@ use lib.Seq.{take-nil}
 use borrow.Table.Steps.{cases}
 use Rattle.text.specs.Bytes.{isNewline}
 use Rattle.text.specs.Runs.{isEmpty, same}
-use Rattle.text.specs.Lines.{Line, joinFirst, lines, size, blankLine, body, bodyEnd, firstRun, valueStart, headLine, tailLines, leading, blanks}
-use Rattle.text.specs.Parts.{linesIn, lineIn, firstLine, nextLine, lineStarts, LineStart}
+use Rattle.text.specs.Lines.{Line, joinFirst, lines, size, blankLine, body, bodyEnd, firstRun, valueStart, leading, blanks}
+use Rattle.text.specs.Parts.{linesIn, lineIn, firstLine, lineStarts, LineStart}
 use Rattle.text.proofs.Basics.{and-first}
-use Rattle.text.proofs.Laws.Lines.{some-lines, size-headLine, size-take-mono, bodyEnd-le}
-use Rattle.text.proofs.Laws.LinesIn.{linesIn-nil, linesIn-drop, lineIn-to, size-linesIn, within-linesIn, nextLine-from, nextLine-to}
+use Rattle.text.proofs.Laws.Lines.{some-lines, bodyEnd-le}
+use Rattle.text.proofs.Laws.LinesIn.{linesIn-drop, size-linesIn}
 use Rattle.rules.specs.Headings.{isHeading}
 use Rattle.rules.specs.Kind
-use Rattle.rules.specs.Elements.{Found, found, propertiesBefore, propertyDrawer}
-use Rattle.rules.specs.LineTests.{isPlanning, isPropertiesLine, propertyName}
-use Rattle.rules.specs.declared.place.Place.{Place}
-use Rattle.rules.specs.declared.place.Place.the-variants.{AfterHeading, AfterPlanning}
-use Rattle.rules.specs.Places.{placeAt, allowsProperties}
-use Rattle.rules.proofs.Basics.{options}
+use Rattle.rules.specs.LineTests.{propertyName}
 use Rattle.rules.proofs.Laws.PropertyDrawers.{propertyName-blank, HeadingLine, headingLine-some, headingLine-to}
-use Rattle.rules.proofs.Laws.PropertyDrawers.{lineAfter, DrawerPlace, under-heading, under-planning}
 use Rattle.lookup.specs.declared.stages.Heading.the-variants.{Before, Missing as NoHeading}
-use Rattle.lookup.specs.declared.stages.Drawer.the-variants.{Lines, Missing as NoDrawer}
 use Rattle.lookup.specs.declared.stages.Value.the-variants.{Part, Missing as NoValue}
-use Rattle.lookup.specs.Stages.{isBadKey, headingAt, drawerAt, drawerAfter, valueIn}
+use Rattle.lookup.specs.Stages.{isBadKey, headingAt, valueIn}
 
 -- ---- where a line starts
 
@@ -114,83 +106,6 @@ module _ (s : List ℕ) (p : ℕ) where
       headingLine-or-not
       (λ l. let i = headingAt-yes l in let n : q ≡ p + length line = cc in rw n (headingLine-to s p l))
       (λ n. let i = headingAt-no n in absurd (let z : _≡_ {A = ℕ} 0 1 = cc in omega arith))
-
--- ---- its property drawer
-
--- it has none, or one with n node properties
-pub propertyDrawer-cases {χ} : {A : Type χ} (pl : Place) (ls : List Line) → (propertyDrawer pl ls ≡ none → A)
-    → ((n : ℕ) → propertyDrawer pl ls ≡ some (found Kind.propertyDrawer (n + 2) 0) → A) → A
-unfolding propertyDrawer
-propertyDrawer-cases pl ls f g = cases (allowsProperties pl && isPropertiesLine (headLine ls))
-    (λ h. options (propertiesBefore (tailLines ls))
-    (λ i. f (rw (h, propertyDrawer) (rw i))) (λ n i. g n (rw (h, propertyDrawer) (rw i))))
-    (λ h. f (rw (h, propertyDrawer)))
-
-propertyDrawer-nil : (pl : Place) → propertyDrawer pl [] ≡ none
-unfolding propertyDrawer propertiesBefore tailLines
-propertyDrawer-nil pl =
-    cases (allowsProperties pl && isPropertiesLine (headLine [])) (λ h. rw (h, propertyDrawer)) (λ h. rw (h, propertyDrawer))
-
-module _ (pl : Place) (s : List ℕ) (p e : ℕ) where
-  abbrev ls : List Line
-  ls = linesIn s p e
-
-  pub drawerAt-some : (f : Found) → propertyDrawer pl ls ≡ some f → drawerAt pl s p e ≡ Lines (p + length (headLine ls)) (p + size (take (f .own - 1) ls))
-  unfolding drawerAt
-  drawerAt-some f h = rw (h, drawerAt)
-
-  pub drawerAt-none : propertyDrawer pl ls ≡ none → drawerAt pl s p e ≡ NoDrawer
-  unfolding drawerAt
-  drawerAt-none h = rw (h, drawerAt)
-
-  pub drawerAt-end : e ≤ p → drawerAt pl s p e ≡ NoDrawer
-  drawerAt-end h = drawerAt-none (rw (linesIn-nil s p e h) (propertyDrawer-nil pl))
-
-  drawerAt-order : p ≤ e → e ≤ length s → (a z : ℕ) → drawerAt pl s p e ≡ Lines a z → (a ≤ z) × (z ≤ e)
-  drawerAt-order h i a z j =
-      propertyDrawer-cases pl ls
-      (λ k. let d = drawerAt-none k in absurd (let z : _≡_ {A = ℕ} 0 1 = cc in omega arith))
-      (λ n k. let d = drawerAt-some (found Kind.propertyDrawer (n + 2) 0) k in
-      let from : a ≡ p + length (headLine ls) = cc in
-      let to : z ≡ p + size (take (n + 2 - 1) ls) = cc in
-      omega (arith, size-headLine ls, size-take-mono 1 (n + 2 - 1) ls (omega arith), within-linesIn s p e h i (n + 2 - 1)))
-
-module _ (s : List ℕ) (p : ℕ) where
-  abbrev end : ℕ
-  end = nextLine isHeading s p
-
-  pub after-heading : isPlanning (lineAfter s p) ≡ false → drawerAfter s p ≡ drawerAt AfterHeading s p end
-  unfolding drawerAfter
-  after-heading h = rw (h, drawerAfter)
-
-  pub after-planning : isPlanning (lineAfter s p) ≡ true → drawerAfter s p ≡ drawerAt AfterPlanning s (p + length (lineAfter s p)) end
-  unfolding drawerAfter
-  after-planning h = rw (h, drawerAfter)
-
-  -- in its place b
-  pub drawerAfter-some : (b : ℕ) (f : Found) → DrawerPlace s p b → propertyDrawer (placeAt s b) (linesIn s b end) ≡ some f
-      → drawerAfter s p ≡ Lines (b + length (headLine (linesIn s b end))) (b + size (take (f .own - 1) (linesIn s b end)))
-  drawerAfter-some b f (under-heading h i j) k = rw i (after-heading h ∙ drawerAt-some AfterHeading s p end f (rw (j, i) at k))
-  drawerAfter-some b f (under-planning h i j) k = rw i (after-planning h ∙ drawerAt-some AfterPlanning s (p + length (lineAfter s p)) end f (rw (j, i) at k))
-
-  -- there is none, or there is one
-  pub drawerAfter-cases {χ} : {A : Type χ} → (drawerAfter s p ≡ NoDrawer → A)
-      → ((f : Found) → isPlanning (lineAfter s p) ≡ false → propertyDrawer AfterHeading (linesIn s p end) ≡ some f → A)
-      → ((f : Found) → isPlanning (lineAfter s p) ≡ true → propertyDrawer AfterPlanning (linesIn s (p + length (lineAfter s p)) end) ≡ some f → A) → A
-  drawerAfter-cases x y z = cases (isPlanning (lineAfter s p))
-      (λ h. options (propertyDrawer AfterPlanning (linesIn s (p + length (lineAfter s p)) end))
-      (λ i. x (after-planning h ∙ drawerAt-none AfterPlanning s (p + length (lineAfter s p)) end i)) (λ f i. z f h i))
-      (λ h. options (propertyDrawer AfterHeading (linesIn s p end))
-      (λ i. x (after-heading h ∙ drawerAt-none AfterHeading s p end i)) (λ f i. y f h i))
-
-  pub drawerAfter-order : p ≤ length s → (a z : ℕ) → drawerAfter s p ≡ Lines a z → (a ≤ z) × (z ≤ length s)
-  drawerAfter-order h a z i =
-      let from = nextLine-from s isHeading p in
-      let to = nextLine-to s isHeading p h in
-      let o : (a ≤ z) × (z ≤ end) = cases (isPlanning (lineAfter s p))
-      (λ j. drawerAt-order AfterPlanning s (p + length (lineAfter s p)) end (lineIn-to s p end from to) to a z (sym (after-planning j) ∙ i))
-      (λ j. drawerAt-order AfterHeading s p end from to a z (sym (after-heading j) ∙ i)) in
-      omega arith
 
 -- ---- the key's line
 

@@ -7,6 +7,7 @@ use std::time::{Duration, Instant};
 
 use comparison::check::{check, Tally};
 use comparison::dates::check_days;
+use comparison::drawers::REASONS;
 use comparison::escape::escape;
 use comparison::random::Random;
 use comparison::searches::MEETINGS;
@@ -50,7 +51,7 @@ fn main() -> ExitCode {
     println!("{}", summary(count, &texts, &tally));
     if count >= COUNT && !sees_all(&texts, &tally) {
         eprintln!(
-            "compare: a class of text, an answer, a kind, a sort of search or of date never came"
+            "compare: a class of text, an answer, a kind, a sort of lookup, search or date never came"
         );
         return ExitCode::FAILURE;
     }
@@ -58,9 +59,9 @@ fn main() -> ExitCode {
 }
 
 /// Did each class of text, each answer of readings and lookups, each kind of record and each sort of
-/// search for a closer and of answer about dates come?
+/// lookup, of search for a closer and of answer about dates come?
 fn sees_all(texts: &[usize], tally: &Tally) -> bool {
-    let lookups = [0, 1, 4, 5, 6, 7].map(|number| tally.lookups[number]);
+    let lookups = [0, 1, 4, 5, 6, 7, 8, 9, 10].map(|number| tally.lookups[number]);
     let kinds = &tally.kinds[1..];
     let dates = tally.dates.seen().into_iter().flat_map(|(_, seen)| seen);
     let dates: Vec<usize> = dates.map(|(_, count)| count).collect();
@@ -68,6 +69,7 @@ fn sees_all(texts: &[usize], tally: &Tally) -> bool {
         texts,
         &tally.readings,
         &lookups,
+        &tally.drawers,
         kinds,
         &tally.searches,
         &dates,
@@ -91,13 +93,15 @@ fn summary(count: u64, texts: &[usize], tally: &Tally) -> String {
     let classes: Vec<String> = classes
         .map(|(class, seen)| format!("{class:?} {seen}"))
         .collect();
+    let drawers = REASONS.iter().map(|(reason, _)| *reason);
+    let drawers = by_name(drawers.zip(tally.drawers));
     let searches = MEETINGS.iter().map(|(meeting, _)| *meeting);
     let searches = by_name(searches.zip(tally.searches));
     let dates = tally.dates.seen();
     let dates = dates.map(|(about, seen)| format!("{about}: {}", by_name(seen.into_iter())));
     format!(
         "compare: {count} texts agree ({}); readings by number {}; lookups by number {}; \
-         records by kind {}; searches for closers: {searches}; {}",
+         drawers: {drawers}; records by kind {}; searches for closers: {searches}; {}",
         classes.join(", "),
         by_number(&tally.readings),
         by_number(&tally.lookups),

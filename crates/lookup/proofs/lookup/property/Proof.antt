@@ -9,7 +9,7 @@ use denote.Enum.Declared.{tagOf}
 use lib.ListN.{length}
 use types.Run.{OneOf, miss}
 use Rattle.lookup.specs.declared.lookup.Answer.{Answer}
-use Rattle.lookup.specs.declared.lookup.Answer.the-variants.{Found, TooLong, NoHeading, NoDrawer, NoKey, BadKey}
+use Rattle.lookup.specs.declared.lookup.Answer.the-variants.{Found, TooLong, NoHeading, BlankFirst, NotClosed, NotProperty, NoDrawer, NoKey, BadKey}
 use Rattle.lookup.specs.Lookup.{lookup, partOf, placeOf}
 use Rattle.lookup.proofs.lookup.Answer.{the-type}
 use Rattle.lookup.proofs.Laws.Lookup.{lookup-inside}
@@ -18,12 +18,15 @@ use Rattle.lookup.proofs.lookup.property.Tie as tie
 
 -- the places of the refusals among the answers
 abbrev refusals : List ℕ
-refusals = 1 ∷ 2 ∷ 3 ∷ 4 ∷ 5 ∷ []
+refusals = 1 ∷ 2 ∷ 3 ∷ 4 ∷ 5 ∷ 6 ∷ 7 ∷ 8 ∷ []
 
 refused : (r : Answer) (s : List ℕ) (q : ℕ × ℕ) → OneOf refusals (tagOf the-type r) → ([] ≡ partOf r s) × ((q .0, 0 + q .1) ≡ placeOf r q)
 refused (Found a e) s q h = absurd (miss refusals 0 tt h)
 refused TooLong s q h = (refl, refl)
 refused NoHeading s q h = (refl, refl)
+refused BlankFirst s q h = (refl, refl)
+refused NotClosed s q h = (refl, refl)
+refused (NotProperty f) s q h = (refl, refl)
 refused NoDrawer s q h = (refl, refl)
 refused NoKey s q h = (refl, refl)
 refused BadKey s q h = (refl, refl)

@@ -1,7 +1,7 @@
 -- `lookup::planning::line_after` meets its contract: no line has more stars than the text has bytes, so the section ends at the next heading line.
 -- Assumes nothing.
 use borrow.Author.Needs.{needs}
-use Rattle.lookup.proofs.Laws.Finding.{section-order}
+use Rattle.lookup.proofs.Laws.DrawersFound.{section-order}
 use Rattle.lookup.proofs.Laws.Planning.{bodyAfter-none, bodyAfter-line}
 use Rattle.lookup.proofs.planning.line_after.Statement.{statement}
 use Rattle.lookup.proofs.planning.line_after.Tie as tie

@@ -1,4 +1,4 @@
--- `lookup::stages::find_drawer` meets its contract: no line has more stars than the text has bytes, so the section ends at the next heading line.
+-- `lookup::drawer::find_drawer` meets its contract: no line has more stars than the text has bytes, so the section ends at the next heading line.
 -- Assumes nothing.
 use mathlib.Core.Path.{sym, _∙_}
 use Prim.Native.Nat.{_≤_}
@@ -6,9 +6,9 @@ use native.Mathlib.Omega.{arith}
 use borrow.Author.Needs.{needs}
 use lib.ListN.{length}
 use Rattle.rules.proofs.Laws.LineOf.{lineOf, lineSpan-next}
-use Rattle.lookup.proofs.Laws.Finding.{section-order, drawerAfter-end, drawerAfter-planning, drawerAfter-heading}
-use Rattle.lookup.proofs.stages.find_drawer.Statement.{statement}
-use Rattle.lookup.proofs.stages.find_drawer.Tie as tie
+use Rattle.lookup.proofs.Laws.DrawersFound.{section-order, drawerAfter-end, drawerAfter-planning, drawerAfter-heading}
+use Rattle.lookup.proofs.drawer.find_drawer.Statement.{statement}
+use Rattle.lookup.proofs.drawer.find_drawer.Tie as tie
 
 order : (c : tie.After-next-heading) → let a = c .before .before .args in
     (a .from ≤ c .next-heading .result) × (c .next-heading .result ≤ length (a .text .now))

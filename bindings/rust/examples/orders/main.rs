@@ -1,0 +1,93 @@
+//! The clerk's tool: lists the headings of order books with their VINs and deadlines,
+//! or warns of those whose VIN is missing, in the `file:line: text` form that editors
+//! jump by. `orders --help` tells its use.
+
+mod arguments;
+mod entry;
+mod finding;
+mod printable;
+mod report;
+mod source;
+
+use std::env;
+use std::error::Error;
+use std::io::{self, ErrorKind, Write};
+use std::process::ExitCode;
+
+use arguments::{Command, Request};
+use report::Report;
+use source::Source;
+
+const HELP: &str = include_str!("help.txt");
+const VERSION: &str = concat!("orders (comaltzex) ", env!("CARGO_PKG_VERSION"), "\n");
+
+/// How the program ends, the worst last.
+#[derive(Clone, Copy, PartialEq, Eq, PartialOrd, Ord)]
+enum Status {
+    Good = 0,
+    /// Warnings were printed.
+    Warned = 1,
+    /// The command line is wrong, a book was not read, or not all was written.
+    Failed = 2,
+}
+
+fn main() -> ExitCode {
+    let status = match arguments::parse(env::args_os().skip(1)) {
+        Ok(Command::Help) => print(HELP.as_bytes()).err().unwrap_or(Status::Good),
+        Ok(Command::Version) => print(VERSION.as_bytes()).err().unwrap_or(Status::Good),
+        Ok(Command::Report(request)) => report_all(&request),
+        Err(error) => complain(error.as_bytes()),
+    };
+    ExitCode::from(status as u8)
+}
+
+/// Reports on each book in turn, and gives the worst status.
+fn report_all(request: &Request) -> Status {
+    let mut worst = Status::Good;
+    for source in &request.books {
+        match report_on(source, request) {
+            Ok(report) => {
+                worst = worst.max(status_of(&report));
+                if let Err(status) = print(&report.lines) {
+                    return worst.max(status);
+                }
+            }
+            Err(error) => worst = complain_of(source.name(), &*error),
+        }
+    }
+    worst
+}
+
+fn report_on(source: &Source, request: &Request) -> Result<Report, Box<dyn Error>> {
+    Ok(Report::new(source.name(), &source.contents()?, request)?)
+}
+
+fn status_of(report: &Report) -> Status {
+    if report.has_warnings {
+        Status::Warned
+    } else {
+        Status::Good
+    }
+}
+
+/// Writes to standard output. An error is how to end at once: quietly, where the reader
+/// has gone away.
+fn print(text: &[u8]) -> Result<(), Status> {
+    let mut output = io::stdout().lock();
+    let written = output.write_all(text).and_then(|()| output.flush());
+    written.map_err(|error| match error.kind() {
+        ErrorKind::BrokenPipe => Status::Good,
+        _ => complain_of(b"standard output", &error),
+    })
+}
+
+fn complain_of(name: &[u8], error: &dyn Error) -> Status {
+    complain(&[name, b": ", error.to_string().as_bytes()].concat())
+}
+
+/// Says on standard error what went wrong. Where that fails, the status must do.
+fn complain(message: &[u8]) -> Status {
+    let line = [b"orders: ", message, b"\n"].concat();
+    let _ = io::stderr().write_all(&line);
+    Status::Failed
+}
