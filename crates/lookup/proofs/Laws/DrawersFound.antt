@@ -13,7 +13,8 @@ use Rattle.text.specs.Lines.{Line, size, body, headLine, blanks}
 use Rattle.text.specs.Parts.{part, linesIn, lineIn, firstLine, nextLine}
 use Rattle.text.specs.Spans.{lineSpan}
 use Rattle.text.specs.declared.line.LineSpan.{LineSpan}
-use Rattle.text.proofs.Laws.LinesIn.{lineIn-nil, linesIn-nil, linesIn-drop, linesIn-take, within-linesIn, past, past-here, past-skip, nextLine-from, nextLine-to}
+use Rattle.text.proofs.Laws.LinesIn.{lineIn-nil, linesIn-nil, linesIn-drop, linesIn-take, within-linesIn}
+use Rattle.text.proofs.Laws.LinesIn.{past, past-here, past-skip, nextLine-from, nextLine-to}
 use Rattle.rules.specs.Kind
 use Rattle.rules.specs.Headings.{isHeading, isHeadingUpTo}
 use Rattle.rules.specs.LineTests.{isPlanning, isPropertiesLine, isEndLine, isNodeProperty}
