@@ -1,7 +1,7 @@
 -- The cases of specs/Pinned are right, by computation.
 use mathlib.Core.Path.{refl}
 use Rattle.text.specs.Cases.{Right}
-use Rattle.lookup.specs.Pinned.{lookupCases, reasonCases, conditionCases, planningCases, OpenLookupCases}
+use Rattle.lookup.specs.Pinned.{lookupCases, reasonCases, outcomeCases, planningCases, OpenLookupCases}
 
 pub lookups-pinned : Right lookupCases
 unfolding OpenLookupCases
@@ -11,9 +11,9 @@ pub reasons-pinned : Right reasonCases
 unfolding OpenLookupCases
 reasons-pinned = refl
 
-pub conditions-pinned : Right conditionCases
+pub outcomes-pinned : Right outcomeCases
 unfolding OpenLookupCases
-conditions-pinned = refl
+outcomes-pinned = refl
 
 pub planning-pinned : Right planningCases
 unfolding OpenLookupCases

@@ -29,7 +29,7 @@ use Rattle.lookup.specs.declared.drawer.Drawer.{Drawer}
 use Rattle.lookup.specs.declared.drawer.Drawer.the-variants.{Lines, BlankFirst, NotClosed, NotProperty, Missing}
 use Rattle.lookup.specs.Drawers.{drawerPlace, drawerLines, isBlankFirst, hasEnd, beforeEnd, hasOther, isNotClosed, isNotProperties}
 use Rattle.lookup.specs.Drawers.{firstOtherIn, whyNone, drawerIn, drawerAfter}
-use Rattle.lookup.specs.Promises.{NoReason, howMany, Exclusive}
+use Rattle.lookup.specs.Promises.{NoReason, outcomes, howMany, atMostOne, Exclusive}
 
 -- ---- the lines before the closer
 
@@ -108,17 +108,17 @@ module _ (ls : List Line) where
     other-blank = cases (blankLine (headLine ls)) (λ b. rw b) (λ b. rw (b, leading-zero blankLine ls b) (sym o))
 
   pub exclusive : Exclusive ls
-  unfolding Exclusive howMany isSome
+  unfolding outcomes atMostOne howMany isSome
   exclusive = cases opened
       (λ o. options (propertiesBefore rest)
       (λ h. cases (hasEnd rest)
-      (λ e. rw (opened-none o h, opened-blank o, opened-closed o, opened-properties o, e, before-none rest h e) (omega arith))
-      (λ e. rw (opened-none o h, opened-blank o, opened-closed o, opened-properties o, e) (omega arith)))
+      (λ e. rw (opened-none o h, opened-blank o, opened-closed o, opened-properties o, e, before-none rest h e))
+      (λ e. rw (opened-none o h, opened-blank o, opened-closed o, opened-properties o, e)))
       (λ n h. let b = before-some rest n h in
-      rw (opened-drawer o n h, opened-blank o, opened-closed o, opened-properties o, b .0, b .1) (omega arith)))
+      rw (opened-drawer o n h, opened-blank o, opened-closed o, opened-properties o, b .0, b .1)))
       (λ o. cases (isBlankFirst ls)
-      (λ b. rw (other-drawer o, b, other-closed o, other-properties o) (omega arith))
-      (λ b. rw (other-drawer o, b, other-closed o, other-properties o) (omega arith)))
+      (λ b. rw (other-drawer o, b, other-closed o, other-properties o))
+      (λ b. rw (other-drawer o, b, other-closed o, other-properties o)))
 
   -- one of them holds, or none
   pub reason-cases {χ} : {A : Type χ} → (isBlankFirst ls ≡ true → A) → (isNotClosed ls ≡ true → A) → (isNotProperties ls ≡ true → A) → (NoReason ls → A) → A
