@@ -4,4 +4,5 @@ pub mod DrawersFound
 pub mod Stages
 pub mod Finding
 pub mod Lookup
+pub mod Defaults
 pub mod Planning

@@ -1,6 +1,7 @@
 pub mod Drawers
 pub mod Stages
 pub mod Lookup
+pub mod Defaults
 pub mod Planning
 pub mod Promises
 pub mod Pinned

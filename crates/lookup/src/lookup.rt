@@ -1,5 +1,6 @@
 ghost use mathlib.Core.Path.{_≡_};
 ghost use Rattle.lookup.specs.Lookup as spec;
+ghost use Rattle.lookup.specs.Lookup.{Inside};
 ghost use Rattle.lookup.specs.Promises.{Tied};
 ghost use Rattle.lookup.specs.declared.lookup.Answer.the-variants.{NoDrawer};
 use crate::drawer::Drawer;
@@ -61,13 +62,22 @@ pub fn lookup(text: &[u8], at: usize, key: &[u8]) -> Answer
     Answer::Found(start, end)
 }
 
-// The value itself: the part of the text that a lookup finds, and the empty part at byte 0 where it is refused.
+// The part of a text that an answer gives: the value itself, and the empty part at byte 0 where it is a refusal.
+pub fn part_of<'a>(text: &'a [u8], answer: Answer) -> &'a [u8]
+    requires { ⌜ Inside (now text) answer ⌝ }
+    ensures { λ r. ⌜ now r ≡ spec.partOf answer (now (text .entry)) ⌝ }
+    ensures { λ r. ⌜ r .ptr ≡ spec.placeOf answer (text .entry .ptr) ⌝ }
+{
+    let Answer::Found(start, end) = answer else {
+        return &text[0..0];
+    };
+    &text[start..end]
+}
+
+// The value itself, as a part of the text.
 pub fn property<'a>(text: &'a [u8], at: usize, key: &[u8]) -> &'a [u8]
     ensures { λ r. ⌜ now r ≡ spec.partOf (spec.lookup (now (text .entry)) at (now (key .entry))) (now (text .entry)) ⌝ }
     ensures { λ r. ⌜ r .ptr ≡ spec.placeOf (spec.lookup (now (text .entry)) at (now (key .entry))) (text .entry .ptr) ⌝ }
 {
-    let Answer::Found(start, end) = lookup(text, at, key) else {
-        return &text[0..0];
-    };
-    &text[start..end]
+    part_of(text, lookup(text, at, key))
 }
