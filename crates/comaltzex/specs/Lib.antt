@@ -1,3 +1,4 @@
 pub mod Stamps
+pub mod Values
 pub mod Numbers
 pub mod Pinned

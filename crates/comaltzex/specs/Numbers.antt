@@ -9,7 +9,8 @@ use Rattle.reading.specs.declared.answer.Answer.{Answer}
 use Rattle.reading.specs.Answers.{number, count}
 use Rattle.reading.specs.Promises.{Settled}
 use Rattle.lookup.specs.Lookup as Lookup
-use Rattle.lookup.specs.Promises.{Tied}
+use Rattle.lookup.specs.Defaults.{withDefaults, whose, answer}
+use Rattle.lookup.specs.Promises.{Tied, SourcedFrom}
 use Rattle.rules.specs.Closers.{searchFrom}
 use Rattle.rules.specs.declared.closer.Closer.{Closer}
 use Rattle.rules.specs.declared.closer.Closer.the-variants.{At, Nothing}
@@ -26,12 +27,13 @@ use Rattle.comaltzex.specs.declared.DayCount.{DayCount}
 use Rattle.comaltzex.specs.declared.FoundStamp.{FoundStamp}
 use Rattle.comaltzex.specs.declared.Plan.{Plan}
 use Rattle.comaltzex.specs.declared.Reading.{Reading}
-use Rattle.comaltzex.specs.declared.Value.{Value}
+use Rattle.comaltzex.specs.declared.value.Value.{Value}
+use Rattle.comaltzex.specs.declared.value.SourcedValue.{SourcedValue}
 use Rattle.comaltzex.specs.declared.ClosingLine.{ClosingLine}
 
 -- the version of the interface: another one whenever an answer, the record's width or a function's signature changes, or a function is added
 abbrev pub version : ℕ
-version = 5
+version = 6
 
 -- a closer in numbers: whether there is one, and its line's ends; all 0 where there is none
 abbrev pub foundNumber : Closer → ℕ
@@ -60,6 +62,15 @@ pub record LooksUpAs (s : List ℕ) (p : ℕ) (k : List ℕ) (r : Value) : Type 
   pub end : r .end ≡ Lookup.end (Lookup.lookup s p k)
   pub further : r .further ≡ Lookup.further (Lookup.lookup s p k)
   pub tied : Tied s p k (Lookup.lookup s p k)
+
+-- a lookup of key k at byte p of order text s with defaults text d answers r  [02 order 13]
+pub record SourcesAs (s : List ℕ) (p : ℕ) (d k : List ℕ) (r : SourcedValue) : Type 0 where
+  pub number : r .number ≡ Lookup.number (answer (withDefaults s p d k))
+  pub whose : r .whose ≡ whose (withDefaults s p d k)
+  pub start : r .start ≡ Lookup.start (answer (withDefaults s p d k))
+  pub end : r .end ≡ Lookup.end (answer (withDefaults s p d k))
+  pub further : r .further ≡ Lookup.further (answer (withDefaults s p d k))
+  pub sourced : SourcedFrom s p d k (withDefaults s p d k)
 
 -- a search from byte p in a container that ends at byte e of text s answers r
 pub record SearchesAs (s : List ℕ) (p e : ℕ) (r : ClosingLine) : Type 0 where

@@ -10,8 +10,9 @@ use Rattle.dates.specs.Planning.{OpenPlanning}
 use Rattle.table.specs.Reading.{OpenReading}
 use Rattle.lookup.specs.Stages.{headingAt}
 use Rattle.lookup.specs.Planning.{bodyAfter, planning}
-use Rattle.comaltzex.specs.Numbers.{LooksUpAs, stampAt, planAt}
-use Rattle.comaltzex.specs.declared.Value.{Value}
+use Rattle.comaltzex.specs.Numbers.{LooksUpAs, SourcesAs, stampAt, planAt}
+use Rattle.comaltzex.specs.declared.value.Value.{Value}
+use Rattle.comaltzex.specs.declared.value.SourcedValue.{SourcedValue}
 use Rattle.comaltzex.specs.declared.stamp.IntervalNumbers.{IntervalNumbers}
 use Rattle.comaltzex.specs.declared.stamp.MomentNumbers.{MomentNumbers}
 use Rattle.comaltzex.specs.declared.stamp.Stamp.{Stamp}
@@ -20,6 +21,14 @@ use Rattle.comaltzex.specs.declared.stamp.Stamp.{Stamp}
 infix 100 _answers_from_to_and_
 abbrev pub _answers_from_to_and_ : String → ℕ → ℕ → ℕ → ℕ → Type 0
 w answers n from a to e and q = (r : Value) → LooksUpAs (word w) 0 (word "VIN") r → (r .number ≡ n) × (r .start ≡ a) × (r .end ≡ e) × (r .further ≡ q)
+
+-- whatever answers a lookup of a key under the first heading line of an order text, with a defaults text, has a number, whose answer it is, a
+-- part and a further number
+infix 100 _with_key_answers_of_from_to_and_
+abbrev pub _with_key_answers_of_from_to_and_ : String → String → String → ℕ → ℕ → ℕ → ℕ → ℕ → Type 0
+w with d key k answers n of m from a to e and q =
+    (r : SourcedValue) → SourcesAs (word w) 0 (word d) (word k) r
+    → (r .number ≡ n) × (r .whose ≡ m) × (r .start ≡ a) × (r .end ≡ e) × (r .further ≡ q)
 
 -- the numbers of a date in their order: the date, the time, the repeater, the delay, and whether the delay stands first
 unfoldable pub intervalList : IntervalNumbers → List ℕ

@@ -4,19 +4,24 @@ ghost use Rattle.text.specs.Number;
 ghost use Rattle.dates.specs.Stamps.{dateOf};
 ghost use Rattle.dates.specs.Planning.{noStamps};
 ghost use Rattle.table.specs.Records.{recordSize};
-ghost use Rattle.comaltzex.specs.Numbers.{ReadsAs, LooksUpAs, SearchesAs, CountsAs, foundStamp, stampAt, plan, planAt, version};
+ghost use Rattle.comaltzex.specs.Numbers.{ReadsAs, LooksUpAs, SourcesAs, SearchesAs, CountsAs, foundStamp, stampAt, plan, planAt, version};
 
 pub mod stamp;
+pub mod value;
 
 use crate::stamp::MomentNumbers;
 use crate::stamp::Stamp;
 use crate::stamp::stamp_numbers;
+use crate::value::SourcedValue;
+use crate::value::Value;
+use crate::value::sourced_numbers;
+use crate::value::value_numbers;
 use dates::days::days_between;
 use dates::planning::Planning;
 use dates::read::read_timestamp;
 use dates::stamp::Date;
 use dates::stamp::Timestamp;
-use lookup::lookup::Answer as Lookup;
+use lookup::defaults::lookup_with_defaults;
 use lookup::lookup::lookup;
 use lookup::planning::Answer as Planned;
 use lookup::planning::planning;
@@ -28,7 +33,7 @@ use table::record;
 use text::number;
 
 // The version of this interface, as specs/Numbers has it.
-const VERSION: u32 = 5;
+const VERSION: u32 = 6;
 
 // Both ends of a line that was not found.
 const NOWHERE: usize = 0;
@@ -38,15 +43,6 @@ const NOWHERE: usize = 0;
 pub struct Reading {
     pub number: u32,
     pub count: usize,
-}
-
-// The number of a lookup's answer, the value's two ends, and a further number.
-#[repr(C)]
-pub struct Value {
-    pub number: u32,
-    pub start: usize,
-    pub end: usize,
-    pub further: usize,
 }
 
 // Reads a text into a lent table.
@@ -77,34 +73,20 @@ fn answered(number: u32, count: usize) -> Reading
 pub extern "C" fn comaltzex_lookup(text: &[u8], at: usize, key: &[u8]) -> Value
     ensures { λ r. ⌜ LooksUpAs (now (text .entry)) at (now (key .entry)) r ⌝ }
 {
-    match lookup(text, at, key) {
-        Lookup::Found(a, e) => Value {
-            number: number::DONE,
-            start: a,
-            end: e,
-            further: 0,
-        },
-        Lookup::TooLong => refused(number::TOO_LONG, 0),
-        Lookup::NoHeading => refused(number::NO_HEADING, 0),
-        Lookup::BlankFirst => refused(number::BLANK_FIRST, 0),
-        Lookup::NotClosed => refused(number::NOT_CLOSED, 0),
-        Lookup::NotProperty(line) => refused(number::NOT_PROPERTY, line),
-        Lookup::NoDrawer => refused(number::NO_DRAWER, 0),
-        Lookup::NoKey => refused(number::NO_KEY, 0),
-        Lookup::BadKey => refused(number::BAD_KEY, 0),
-    }
+    value_numbers(lookup(text, at, key))
 }
 
-// A refusal: the empty part at byte 0.
-fn refused(number: u32, further: usize) -> Value
-    ensures { λ r. ⌜ r ≡ record { number = number; start = 0; end = 0; further = further } ⌝ }
+// The same, and where the order's drawer lacks the key, in the drawer of the defaults' first heading.
+#[no_mangle]
+pub extern "C" fn comaltzex_lookup_with_defaults(
+    order: &[u8],
+    at: usize,
+    defaults: &[u8],
+    key: &[u8],
+) -> SourcedValue
+    ensures { λ r. ⌜ SourcesAs (now (order .entry)) at (now (defaults .entry)) (now (key .entry)) r ⌝ }
 {
-    Value {
-        number: number,
-        start: 0,
-        end: 0,
-        further: further,
-    }
+    sourced_numbers(lookup_with_defaults(order, at, defaults, key))
 }
 
 // What a search for a closer finds: 1 where there is one, else 0; its line's start and end, else 0; and how many lines it compared further.

@@ -1,7 +1,8 @@
--- The cases of specs/Pinned are right, by computation.
+-- The cases of specs/Pinned and specs/PinnedDefaults are right, by computation.
 use mathlib.Core.Path.{refl}
 use Rattle.text.specs.Cases.{Right}
 use Rattle.lookup.specs.Pinned.{lookupCases, reasonCases, outcomeCases, planningCases, OpenLookupCases}
+use Rattle.lookup.specs.PinnedDefaults.{reservedCases, headingCases, defaultsCases, partCases, OpenDefaultsCases}
 
 pub lookups-pinned : Right lookupCases
 unfolding OpenLookupCases
@@ -18,3 +19,19 @@ outcomes-pinned = refl
 pub planning-pinned : Right planningCases
 unfolding OpenLookupCases
 planning-pinned = refl
+
+pub reserved-pinned : Right reservedCases
+unfolding OpenDefaultsCases
+reserved-pinned = refl
+
+pub headings-pinned : Right headingCases
+unfolding OpenDefaultsCases
+headings-pinned = refl
+
+pub defaults-pinned : Right defaultsCases
+unfolding OpenDefaultsCases
+defaults-pinned = refl
+
+pub parts-pinned : Right partCases
+unfolding OpenDefaultsCases
+parts-pinned = refl

@@ -5,3 +5,4 @@ pub mod Defaults
 pub mod Planning
 pub mod Promises
 pub mod Pinned
+pub mod PinnedDefaults

@@ -49,7 +49,12 @@ pub fn lookup_with_defaults(order: &[u8], at: usize, defaults: &[u8], key: &[u8]
 }
 
 // The value itself: a part of the order text or of the defaults text.
-pub fn property_or_default<'a>(order: &'a [u8], at: usize, defaults: &'a [u8], key: &[u8]) -> &'a [u8]
+pub fn property_or_default<'a>(
+    order: &'a [u8],
+    at: usize,
+    defaults: &'a [u8],
+    key: &[u8],
+) -> &'a [u8]
     ensures { λ r. ⌜ now r ≡ spec.partOf (spec.withDefaults (now (order .entry)) at (now (defaults .entry)) (now (key .entry))) (now (order .entry)) (now (defaults .entry)) ⌝ }
     ensures { λ r. ⌜ r .ptr ≡ spec.placeOf (spec.withDefaults (now (order .entry)) at (now (defaults .entry)) (now (key .entry))) (order .entry .ptr) (defaults .entry .ptr) ⌝ }
 {
