@@ -51,7 +51,7 @@ abbrev pub answer : Sourced → Answer
 answer (Order r) = r
 answer (Defaults r) = r
 
--- What comes back is a part of the order text or of the defaults text: the part itself, and where it stands.
+-- What comes back is a part of the order text or of the defaults text: the part itself, and where it stands, by where the two texts stand.
 abbrev pub partOf : Sourced → List ℕ → List ℕ → List ℕ
 partOf (Order r) s d = Lookup.partOf r s
 partOf (Defaults r) s d = Lookup.partOf r d
@@ -59,3 +59,9 @@ partOf (Defaults r) s d = Lookup.partOf r d
 abbrev pub placeOf : Sourced → ℕ × ℕ → ℕ × ℕ → ℕ × ℕ
 placeOf (Order r) p q = Lookup.placeOf r p
 placeOf (Defaults r) p q = Lookup.placeOf r q
+
+abbrev pub partGiven : List ℕ → ℕ → List ℕ → List ℕ → List ℕ
+partGiven s p d k = partOf (withDefaults s p d k) s d
+
+abbrev pub placeGiven : List ℕ → ℕ → List ℕ → List ℕ → ℕ × ℕ → ℕ × ℕ → ℕ × ℕ
+placeGiven s p d k a b = placeOf (withDefaults s p d k) a b

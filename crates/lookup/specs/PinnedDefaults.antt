@@ -6,7 +6,7 @@ use Prim.Native.String.{String}
 use Rattle.text.specs.Runs.{word}
 use Rattle.text.specs.Cases.{Case, case, _holds_fails_}
 use Rattle.lookup.specs.Lookup.{number, start, end, further}
-use Rattle.lookup.specs.Defaults.{firstHeading, ofDefaults, isReserved, asksDefaults, withDefaults, whose, answer, partOf, placeOf}
+use Rattle.lookup.specs.Defaults.{firstHeading, ofDefaults, isReserved, asksDefaults, withDefaults, whose, answer, partGiven, placeGiven}
 use Rattle.lookup.specs.Pinned.{OpenLookupCases}
 
 -- the keys that are never taken from the defaults
@@ -80,9 +80,8 @@ defaultsCases =
 infix 100 _with_key_gives_block_after_
 unfoldable pub _with_key_gives_block_after_ : String → String → String → String → ℕ → ℕ → Case
 w with d key k gives v block b after n =
-    let r = withDefaults (word w) 0 (word d) (word k) in
-    let p = placeOf r (1, 100) (2, 200) in
-    case k (p .0 ∷ p .1 ∷ partOf r (word w) (word d)) (b ∷ n ∷ word v)
+    let p = placeGiven (word w) 0 (word d) (word k) (1, 100) (2, 200) in
+    case k (p .0 ∷ p .1 ∷ partGiven (word w) 0 (word d) (word k)) (b ∷ n ∷ word v)
 
 unfoldable pub partCases : List Case
 partCases =

@@ -55,8 +55,8 @@ pub fn property_or_default<'a>(
     defaults: &'a [u8],
     key: &[u8],
 ) -> &'a [u8]
-    ensures { λ r. ⌜ now r ≡ spec.partOf (spec.withDefaults (now (order .entry)) at (now (defaults .entry)) (now (key .entry))) (now (order .entry)) (now (defaults .entry)) ⌝ }
-    ensures { λ r. ⌜ r .ptr ≡ spec.placeOf (spec.withDefaults (now (order .entry)) at (now (defaults .entry)) (now (key .entry))) (order .entry .ptr) (defaults .entry .ptr) ⌝ }
+    ensures { λ r. ⌜ now r ≡ spec.partGiven (now (order .entry)) at (now (defaults .entry)) (now (key .entry)) ⌝ }
+    ensures { λ r. ⌜ r .ptr ≡ spec.placeGiven (now (order .entry)) at (now (defaults .entry)) (now (key .entry)) (order .entry .ptr) (defaults .entry .ptr) ⌝ }
 {
     match lookup_with_defaults(order, at, defaults, key) {
         Sourced::Order(answer) => part_of(order, answer),

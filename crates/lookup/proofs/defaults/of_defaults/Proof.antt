@@ -11,7 +11,9 @@ returns : tie.Need-returns
 returns c = sym (ofDefaults-long _ _ (omega arith))
 
 returns-2 : tie.Need-returns-2
-returns-2 c = c .lookup .ensures .0 ∙ sym (ofDefaults-at _ _ _ (c .before .next-heading .ensures))
+returns-2 c =
+    let found = c .before .next-heading .ensures in
+    c .lookup .ensures .0 ∙ sym (ofDefaults-at _ _ _ found)
 
 pub of-defaults-spec : {M : Type 1} → statement M
 of-defaults-spec = tie.close (tie.spec returns (λ c κs. search needs) (λ c κs. search needs) returns-2)
