@@ -2,18 +2,20 @@
  * comaltzex.h - a proved reader of Org order books.
  *
  * comaltzex_read lists everything in a text as a flat table of records;
- * comaltzex_lookup finds one property of one heading, comaltzex_planning the
- * dates of its planning line; comaltzex_timestamp reads one timestamp, and
- * comaltzex_days_between counts the days from one date to another;
- * comaltzex_find_closer finds the line that closes a block or drawer. All
- * functions are plain: they allocate nothing and keep no state, so threads may
- * call them at once (each with a table of its own).
+ * comaltzex_lookup finds one property of one heading, and
+ * comaltzex_lookup_with_defaults takes what an order lacks from the house
+ * defaults; comaltzex_planning gives the dates of a heading's planning line;
+ * comaltzex_timestamp reads one timestamp, and comaltzex_days_between counts the
+ * days from one date to another; comaltzex_find_closer finds the line that closes
+ * a block or drawer. All functions are plain: they allocate nothing and keep no
+ * state, so threads may call them at once (each with a table of its own).
  *
  * Stack: a call needs up to 96 KB of stack.
  *
  * Pointers: each must point to as many elements as its length says, and none
- * may be NULL, not even with length 0. A table may not overlap the text. The
- * text is bytes, not a C string: it needs no byte 0 at its end.
+ * may be NULL, not even with length 0. A table may not overlap the text; texts
+ * and keys may overlap. A text is bytes, not a C string: it needs no byte 0 at its
+ * end.
  *
  * Places are byte offsets into the text; every end is one past the last byte.
  */
@@ -33,7 +35,7 @@ extern "C" {
  * comaltzex_version() is another number, the library is not the one that this
  * header declares.
  */
-#define COMALTZEX_VERSION 5
+#define COMALTZEX_VERSION 6
 
 #define COMALTZEX_TEXT_LIMIT 65536 /* the longest text, in bytes */
 #define COMALTZEX_DEPTH_LIMIT 32   /* the deepest drawer or greater block */
@@ -104,6 +106,21 @@ typedef struct comaltzex_part {
     size_t end;
     size_t further;  /* with 9 where a line starts, else 0 */
 } comaltzex_part;
+
+/* Whose an answer is. */
+enum comaltzex_whose {
+    COMALTZEX_ORDER = 1,   /* the order text's */
+    COMALTZEX_DEFAULTS = 2 /* the defaults text's */
+};
+
+typedef struct comaltzex_sourced_part {
+    uint32_t number; /* 0, 1 or 4 to 10 */
+    uint32_t whose;  /* of enum comaltzex_whose; start, end and further are places in
+                        this text */
+    size_t start;
+    size_t end;
+    size_t further;  /* with 9 where a line starts, else 0 */
+} comaltzex_sourced_part;
 
 typedef struct comaltzex_closer {
     uint32_t found;  /* 0 or 1 */
@@ -235,6 +252,37 @@ comaltzex_reading comaltzex_read(const uint8_t *text, size_t text_len,
  */
 comaltzex_part comaltzex_lookup(const uint8_t *text, size_t text_len, size_t at,
                                 const uint8_t *key, size_t key_len);
+
+/*
+ * Finds the value of a property of an order, or the house's default for it. It is
+ * up to two lookups, each as by comaltzex_lookup: one in the order text, at the
+ * heading whose line starts at byte `at`; and one in the defaults text, at its first
+ * heading line, of however many stars. What stands above that line or under a later
+ * heading is no default. The two texts may overlap or be the same.
+ *
+ * `whose` says whose answer this is, of a refusal too; start, end and further are
+ * places in that text. The first of these that holds is the answer:
+ *
+ *   whose 1  the order's, if it is any number but 6: 1, 7, 4, one of 8, 10, 9 and 5,
+ *            or 0. With 0 the value is order[start] up to, not including, order[end];
+ *            an empty one is an answer, too. Whatever the defaults are does not
+ *            matter then, not even their length
+ *   whose 1  the order's 6, if the key is `VIN` or `REQUEST`, in any case: these two
+ *            are never taken from the defaults
+ *   whose 2  the defaults', in the same turn:
+ *              1   the defaults text is over 65,536 bytes
+ *              4   no line of it is a heading line
+ *              8, 10, 9, 5, 6   as for any lookup, at its first heading line
+ *              0   the value is defaults[start] up to, not including, defaults[end];
+ *                  it may be empty
+ *
+ * 7 is always the order's. With every number but 0 start and end are 0, and with every
+ * number but 9 further is 0.
+ */
+comaltzex_sourced_part comaltzex_lookup_with_defaults(const uint8_t *order, size_t order_len,
+                                                      size_t at, const uint8_t *defaults,
+                                                      size_t defaults_len, const uint8_t *key,
+                                                      size_t key_len);
 
 /*
  * Finds the closer of the block or drawer whose opener's line starts at byte

@@ -3,7 +3,7 @@
 use crate::RECORD_SIZE;
 
 /// `COMALTZEX_VERSION` of the header.
-const VERSION: u32 = 5;
+const VERSION: u32 = 6;
 
 /// The numbers of an answer, as in `comaltzex.h`.
 pub(crate) mod number {
@@ -19,6 +19,12 @@ pub(crate) mod number {
     pub(crate) const NOT_PROPERTY: u32 = 9;
     pub(crate) const NOT_CLOSED: u32 = 10;
     pub(crate) const NO_DAY: u32 = 11;
+}
+
+/// Whose an answer is, as in `comaltzex.h`.
+pub(crate) mod whose {
+    pub(crate) const ORDER: u32 = 1;
+    pub(crate) const DEFAULTS: u32 = 2;
 }
 
 /// The kinds of a timestamp, as in `comaltzex.h`.
@@ -43,6 +49,16 @@ pub(crate) struct Reading {
 #[repr(C)]
 pub(crate) struct Part {
     pub(crate) number: u32,
+    pub(crate) start: usize,
+    pub(crate) end: usize,
+    pub(crate) further: usize,
+}
+
+/// `comaltzex_sourced_part` of the header.
+#[repr(C)]
+pub(crate) struct SourcedPart {
+    pub(crate) number: u32,
+    pub(crate) whose: u32,
     pub(crate) start: usize,
     pub(crate) end: usize,
     pub(crate) further: usize,
@@ -133,6 +149,16 @@ extern "C" {
         key_len: usize,
     ) -> Part;
 
+    fn comaltzex_lookup_with_defaults(
+        order: *const u8,
+        order_len: usize,
+        at: usize,
+        defaults: *const u8,
+        defaults_len: usize,
+        key: *const u8,
+        key_len: usize,
+    ) -> SourcedPart;
+
     fn comaltzex_find_closer(text: *const u8, text_len: usize, at: usize, end: usize) -> Closer;
 
     fn comaltzex_timestamp(text: *const u8, text_len: usize, at: usize) -> FoundStamp;
@@ -175,6 +201,27 @@ pub(crate) fn lookup(text: &[u8], at: usize, key: &[u8]) -> Part {
     assert_version();
     // SAFETY: as in `read`; the library writes nothing, and `at` may be any number.
     unsafe { comaltzex_lookup(text.as_ptr(), text.len(), at, key.as_ptr(), key.len()) }
+}
+
+pub(crate) fn lookup_with_defaults(
+    order: &[u8],
+    at: usize,
+    defaults: &[u8],
+    key: &[u8],
+) -> SourcedPart {
+    assert_version();
+    // SAFETY: as in `lookup`; the two texts may overlap.
+    unsafe {
+        comaltzex_lookup_with_defaults(
+            order.as_ptr(),
+            order.len(),
+            at,
+            defaults.as_ptr(),
+            defaults.len(),
+            key.as_ptr(),
+            key.len(),
+        )
+    }
 }
 
 pub(crate) fn find_closer(text: &[u8], at: usize, end: usize) -> Closer {
@@ -228,6 +275,7 @@ mod tests {
     #[test]
     fn structs_have_the_sizes_of_c() {
         assert_eq!(size_of::<Part>(), 32);
+        assert_eq!(size_of::<SourcedPart>(), 32);
         assert_eq!(size_of::<Date>(), 12);
         assert_eq!(size_of::<Moment>(), 60);
         assert_eq!(size_of::<Stamp>(), 124);

@@ -32,15 +32,17 @@
 //! ```
 //!
 //! [`read`] does the same into a table that the caller lends, and allocates
-//! nothing. [`planning`] gives the dates of one heading's planning line,
-//! [`timestamp`] reads one timestamp, and [`days_between`] counts the days from one
-//! date to another. [`find_closer`] finds the line that closes one block or drawer. A
-//! call needs up to 96 KB of stack.
+//! nothing. [`lookup_with_defaults`] and [`property_or_default`] take what an order
+//! lacks from the house defaults, a text of their own. [`planning`] gives the dates
+//! of one heading's planning line, [`timestamp`] reads one timestamp, and
+//! [`days_between`] counts the days from one date to another. [`find_closer`] finds
+//! the line that closes one block or drawer. A call needs up to 96 KB of stack.
 
 #![deny(unsafe_code, unsafe_op_in_unsafe_fn, missing_docs)]
 
 mod closer;
 mod dates;
+mod defaults;
 #[allow(unsafe_code)]
 mod ffi;
 mod lines;
@@ -55,6 +57,7 @@ mod timestamp;
 
 pub use closer::{find_closer, CloserSearch};
 pub use dates::{days_between, Date};
+pub use defaults::{lookup_with_defaults, property_or_default, Sourced, Whose};
 pub use lookup::{lookup, property};
 pub use planning::{planning, Planning};
 pub use record::{Kind, Record, Records};

@@ -1,6 +1,6 @@
 use std::ops::Range;
 
-use crate::ffi::{self, number};
+use crate::ffi::{self, number, Part};
 use crate::lines::line_of;
 use crate::LookupRefusal;
 
@@ -19,7 +19,11 @@ use crate::LookupRefusal;
 /// [`NoDrawer`](LookupRefusal::NoDrawer), which exclude one another; and
 /// [`NoKey`](LookupRefusal::NoKey).
 pub fn lookup(text: &[u8], at: usize, key: &[u8]) -> Result<Range<usize>, LookupRefusal> {
-    let part = ffi::lookup(text, at, key);
+    answer(text, ffi::lookup(text, at, key))
+}
+
+/// What a lookup's numbers mean. The text is the one whose answer they are.
+pub(crate) fn answer(text: &[u8], part: Part) -> Result<Range<usize>, LookupRefusal> {
     match part.number {
         number::OK => Ok(part.start..part.end),
         number::TOO_LONG => Err(LookupRefusal::TooLong),

@@ -1,7 +1,8 @@
 //! A stack of 96 KB is enough for every text: the deepest nesting, more of it than is read, and texts of the greatest length.
 
 use comaltzex::{
-    find_closer, lookup, planning, read, timestamp, Refusal, DEPTH_LIMIT, RECORD_SIZE, TEXT_LIMIT,
+    find_closer, lookup, lookup_with_defaults, planning, read, timestamp, Refusal, DEPTH_LIMIT,
+    RECORD_SIZE, TEXT_LIMIT,
 };
 use std::thread;
 
@@ -92,6 +93,24 @@ fn long_refused_lookups() {
     assert_eq!(refused(b"* a", "\n", b":properties:"), 8);
     assert_eq!(refused(opened, ":a:\n", b":a:\n"), 10);
     assert_eq!(refused(opened, ":a:\n", b"x\n:end:"), 9);
+}
+
+/// The first heading of the defaults is their last line, or its drawer takes all of them.
+#[test]
+fn long_lookups_with_defaults() {
+    let answered = |start: &[u8], again: &str, end: &[u8]| {
+        let order = filled("* a\n:properties:\n:a:\n:end:\n");
+        let mut text = filled(again);
+        text[..start.len()].copy_from_slice(start);
+        text[TEXT_LIMIT - end.len()..].copy_from_slice(end);
+        let answer = on_a_small_stack(move || lookup_with_defaults(&order, 0, &text, b"b"));
+        answer.map_err(|refused| (refused.whose.number(), refused.answer.number()))
+    };
+    assert_eq!(answered(b"", "x\n", b"\n* a"), Err((2, 5)));
+    let opened = b"* a\n:properties:\n:a:";
+    assert_eq!(answered(opened, ":a:\n", b":a:\n"), Err((2, 10)));
+    let found = answered(opened, ":a:\n", b":b: 12\n:end:");
+    assert_eq!(found.unwrap().answer, 65_528..65_530);
 }
 
 #[test]
