@@ -18,6 +18,7 @@ use comaltzex::{DEPTH_LIMIT, TEXT_LIMIT};
 mod program;
 
 const GOOD: &str = "* One\n:PROPERTIES:\n:VIN: 7\n:END:\n** Its notes\n";
+const HOUSE: &str = "* House\n:PROPERTIES:\n:FUEL: 98\n:VIN: 1\n:END:\n";
 const BLANK_FIRST: &str = "* One\n\n:PROPERTIES:\n:VIN: 7\n:END:\n";
 const BLANK_FIRST_WARNING: &str =
     ":2: warning: One  a blank line stands above the property drawer\n";
@@ -116,6 +117,92 @@ fn another_key() {
     check(missing.output().unwrap(), 1, wanted, "");
 }
 
+/// One order has its own fuel, one the house's, and a note has none.
+const FUELS: &str = "* One\n:PROPERTIES:\n:FUEL: 102\n:END:\n\
+    * Two\n:PROPERTIES:\n:VIN: 7\n:END:\n** Note\n";
+
+#[test]
+fn house_defaults() {
+    let files = [(&b"book.org"[..], FUELS), (b"house.org", HOUSE)];
+    for options in [&["--defaults", "house.org"][..], &["--defaults=house.org"]] {
+        let mut list = orders("defaults", &files);
+        list.args(options).args(["--key", "FUEL", "book.org"]);
+        let wanted = "book.org:1: One  FUEL 102\n\
+            book.org:5: Two  FUEL 98 (default)\n\
+            book.org:9: Note  no property drawer\n";
+        check(list.output().unwrap(), 0, wanted, "");
+        list.arg("--missing");
+        check(list.output().unwrap(), 0, "", "");
+    }
+}
+
+#[test]
+fn what_the_defaults_lack_is_a_fault() {
+    let files = [(&b"book.org"[..], FUELS), (b"house.org", HOUSE)];
+    let mut missing = orders("lacking", &files);
+    missing.args(["--missing", "--defaults=house.org", "book.org", "--key"]);
+    let boost = missing.arg("BOOST").output().unwrap();
+    let wanted = "book.org:2: warning: One  no BOOST in its drawer or the defaults\n\
+        book.org:6: warning: Two  no BOOST in its drawer or the defaults\n";
+    check(boost, 1, wanted, "");
+}
+
+#[test]
+fn a_vin_is_never_a_default() {
+    let files = [(&b"book.org"[..], FUELS), (b"house.org", HOUSE)];
+    let mut missing = orders("identity", &files);
+    missing.args(["--missing", "--defaults=house.org", "book.org"]);
+    let wanted = "book.org:2: warning: One  no VIN in its drawer\n";
+    check(missing.output().unwrap(), 1, wanted, "");
+}
+
+#[test]
+fn defaults_from_standard_input() {
+    let mut list = orders("house", &[(b"good.org", GOOD)]);
+    list.args(["--defaults", "-", "--key=FUEL", "good.org"]);
+    let wanted = "good.org:1: One  FUEL 98 (default)\n\
+        good.org:5: Its notes  no property drawer\n";
+    check(run_on(list, HOUSE), 0, wanted, "");
+    let mut list = orders("house", &[(b"good.org", GOOD)]);
+    list.args(["--defaults=-", "good.org", "-"]);
+    let error = "orders: standard input cannot be both a book and the defaults: \
+        see `orders --help`\n";
+    check(list.output().unwrap(), 2, "", error);
+}
+
+/// Nothing is listed: what a drawer lacks would be told wrong.
+#[test]
+fn defaults_that_cannot_be_read_are_status_2() {
+    let long = format!("{HOUSE}{}", "x".repeat(TEXT_LIMIT));
+    let files = [(&b"a.org"[..], BLANK_FIRST), (b"long.org", &long)];
+    let errors = [
+        ("none.org", "No such file or directory (os error 2)"),
+        (".", "Is a directory (os error 21)"),
+        ("long.org", "the text is longer than 65,536 bytes"),
+    ];
+    for (name, error) in errors {
+        let mut list = orders("unread_defaults", &files);
+        list.args(["a.org", "--missing", "--defaults", name]);
+        let error = format!("orders: {name}: {error}\n");
+        check(list.output().unwrap(), 2, "", &error);
+    }
+}
+
+#[test]
+fn defaults_of_the_greatest_length() {
+    let blanks = "\n".repeat(TEXT_LIMIT - HOUSE.len());
+    let house = format!("{blanks}{HOUSE}");
+    let files = [(&b"book.org"[..], FUELS), (b"house.org", &house)];
+    let mut missing = orders("long_defaults", &files);
+    missing.args([
+        "--missing",
+        "--defaults=house.org",
+        "--key=FUEL",
+        "book.org",
+    ]);
+    check(missing.output().unwrap(), 0, "", "");
+}
+
 #[test]
 fn standard_input() {
     for arguments in [&["--missing"][..], &["--missing", "-"]] {
@@ -175,6 +262,10 @@ fn bad_usage_is_told_before_a_book_is_read() {
     let error = "orders: unknown option --mising: see `orders --help`\n";
     check(list.output().unwrap(), 2, "", error);
     let mut list = orders("usage", &[]);
+    list.args(["none.org", "--defaults"]);
+    let error = "orders: --defaults needs a file: see `orders --help`\n";
+    check(list.output().unwrap(), 2, "", error);
+    let mut list = orders("usage", &[]);
     list.args(["none.org", "--key=VIN+"]);
     let error = "orders: --key \"VIN+\": a key has 1 to 64 bytes, no blanks or line ends, \
         and no `+` at its end\n";
@@ -191,10 +282,12 @@ fn file_names_are_any_bytes() {
     assert_eq!((output.stdout, output.stderr), (wanted, Vec::new()));
     assert_eq!(output.status.code(), Some(1));
 
-    let mut none = orders("names", &[]);
-    none.arg(OsStr::from_bytes(b"\xff"));
-    let error = b"orders: \xff: No such file or directory (os error 2)\n";
-    assert_eq!(none.output().unwrap().stderr, error);
+    for option in [&[][..], &["--defaults"]] {
+        let mut none = orders("names", &[]);
+        none.args(option).arg(OsStr::from_bytes(b"\xff"));
+        let error = b"orders: \xff: No such file or directory (os error 2)\n";
+        assert_eq!(none.output().unwrap().stderr, error);
+    }
 }
 
 #[test]

@@ -1,6 +1,8 @@
 //! What a heading has of the property that is looked for.
 
-use comaltzex::{lookup, Kind, LookupRefusal};
+use std::ops::Range;
+
+use comaltzex::{lookup, lookup_with_defaults, Kind, LookupRefusal, Sourced, Whose};
 
 use super::entry::{looks_like_a_drawer, starts_with_opener, Entry};
 use super::printable::{printable, shortened};
@@ -15,6 +17,8 @@ const OPENER_ELSEWHERE: &str = "no property drawer: `:PROPERTIES:` must stand al
 #[derive(Debug, PartialEq)]
 pub enum Finding<'b> {
     Value(&'b [u8]),
+    /// There is no value, but the house defaults have one.
+    Default(&'b [u8]),
     /// There is no value.
     Missing(Fault),
     /// There is none, and the heading looks like no order.
@@ -28,23 +32,65 @@ pub struct Fault {
     pub why: String,
 }
 
-/// What this heading of the book has of the property with this key.
-pub fn find<'b>(book: &'b [u8], entry: &Entry, key: &[u8]) -> Finding<'b> {
+type Answer = Result<Range<usize>, LookupRefusal>;
+
+/// What this heading of the book has of the property with this key; what its drawer lacks
+/// may stand in the defaults.
+pub fn find<'b>(
+    book: &'b [u8],
+    entry: &Entry,
+    key: &[u8],
+    defaults: Option<&'b [u8]>,
+) -> Finding<'b> {
     let start = entry.heading.span.start;
-    match lookup(book, start, key) {
+    let Some(defaults) = defaults else {
+        return own(book, entry, key, lookup(book, start, key));
+    };
+    let (whose, answer) = match lookup_with_defaults(book, start, defaults, key) {
+        Ok(found) => (found.whose, Ok(found.answer)),
+        Err(refused) => (refused.whose, Err(refused.answer)),
+    };
+    match whose {
+        Whose::Order => own(book, entry, key, answer),
+        Whose::Defaults => from_defaults(defaults, entry, key, answer),
+    }
+}
+
+/// The heading's own answer.
+fn own<'b>(book: &'b [u8], entry: &Entry, key: &[u8], answer: Answer) -> Finding<'b> {
+    match answer {
         Ok(value) if value.is_empty() => {
             let line = entry.line_of(|r| r.kind == Kind::NodeProperty && r.inner == value);
             missing(line, format!("empty {} in its drawer", printable(key)))
         }
         Ok(value) => Finding::Value(&book[value]),
-        // the line that is missing goes below the drawer's first
-        Err(LookupRefusal::NoKey) => {
-            let line = entry.line_of(|r| r.kind == Kind::PropertyDrawer);
-            missing(line, format!("no {} in its drawer", printable(key)))
-        }
+        Err(LookupRefusal::NoKey) => not_in_drawer(entry, key, ""),
         Err(LookupRefusal::NoDrawer) => without_drawer(book, entry),
-        Err(refusal) => missing(refusal.line_to_mend(book, start), words(book, refusal)),
+        Err(refusal) => {
+            let line = refusal.line_to_mend(book, entry.heading.span.start);
+            missing(line, words(book, Whose::Order, refusal))
+        }
     }
+}
+
+/// The defaults' answer, for a heading whose drawer lacks the key.
+fn from_defaults<'b>(defaults: &'b [u8], entry: &Entry, key: &[u8], answer: Answer) -> Finding<'b> {
+    match answer {
+        Ok(value) if value.is_empty() => not_in_drawer(entry, key, ", empty in the defaults"),
+        Ok(value) => Finding::Default(&defaults[value]),
+        Err(LookupRefusal::NoKey) => not_in_drawer(entry, key, " or the defaults"),
+        Err(refusal) => {
+            let why = words(defaults, Whose::Defaults, refusal);
+            not_in_drawer(entry, key, &format!("; {why}"))
+        }
+    }
+}
+
+/// The line that is missing goes below the drawer's first.
+fn not_in_drawer(entry: &Entry, key: &[u8], besides: &str) -> Finding<'static> {
+    let line = entry.line_of(|r| r.kind == Kind::PropertyDrawer);
+    let key = printable(key);
+    missing(line, format!("no {key} in its drawer{besides}"))
 }
 
 fn missing(line: usize, why: String) -> Finding<'static> {
@@ -67,12 +113,13 @@ fn without_drawer(book: &[u8], entry: &Entry) -> Finding<'static> {
     }
 }
 
-/// The refusal, and of a line that is no property its text.
-fn words(book: &[u8], refusal: LookupRefusal) -> String {
-    let LookupRefusal::NotProperty { start, .. } = refusal else {
+/// The refusal of this text, and of a line that is no property what it says.
+fn words(text: &[u8], whose: Whose, answer: LookupRefusal) -> String {
+    let refusal = Sourced { whose, answer };
+    let LookupRefusal::NotProperty { start, .. } = answer else {
         return refusal.to_string();
     };
-    let line = book[start..].split(|&byte| byte == b'\n').next();
+    let line = text[start..].split(|&byte| byte == b'\n').next();
     match line.unwrap_or_default().trim_ascii() {
         b"" => format!("{refusal}: it is blank"),
         line => format!("{refusal}: {}", shortened(&printable(line), SHOWN)),
@@ -88,9 +135,18 @@ mod tests {
 
     /// The finding at the last heading of a book.
     fn last(book: &[u8]) -> Finding<'_> {
+        last_of(book, b"Vin", None)
+    }
+
+    fn last_of<'b>(book: &'b [u8], key: &[u8], defaults: Option<&'b [u8]>) -> Finding<'b> {
         let records: Vec<Record> = Table::read(book).unwrap().records().collect();
         let entry = entries(&records).last().unwrap();
-        find(book, &entry, b"Vin")
+        find(book, &entry, key, defaults)
+    }
+
+    /// The finding of `Fuel` at the last heading of a book, with these defaults.
+    fn fuel<'b>(book: &'b [u8], defaults: &'b [u8]) -> Finding<'b> {
+        last_of(book, b"Fuel", Some(defaults))
     }
 
     fn at(line: usize, why: &str) -> Finding<'static> {
@@ -181,6 +237,83 @@ mod tests {
             let why = NO_DRAWER.to_string();
             let wanted = Finding::NoOrder(Fault { line, why });
             assert_eq!(last(book.as_bytes()), wanted, "{book:?}");
+        }
+    }
+
+    const LACKING: &[u8] = b"\n* A\nCLOSED: [2026-01-01]\n:PROPERTIES:\n:VIN: 7\n:END:\n";
+    const HOUSE: &[u8] = b"* House\n:PROPERTIES:\n:FUEL: 98\n:VIN: 1\n:REQUEST: 2\n:END:\n";
+
+    #[test]
+    fn a_default() {
+        assert_eq!(fuel(LACKING, HOUSE), Finding::Default(b"98"));
+        let wanted = at(3, "no Fuel in its drawer");
+        assert_eq!(last_of(LACKING, b"Fuel", None), wanted);
+    }
+
+    #[test]
+    fn what_the_order_says_stands() {
+        let book = b"* A\n:PROPERTIES:\n:FUEL: 102\n:END:\n";
+        assert_eq!(fuel(book, HOUSE), Finding::Value(b"102"));
+        let book = b"* A\n:PROPERTIES:\n:FUEL:\n:END:\n";
+        assert_eq!(fuel(book, HOUSE), at(2, "empty Fuel in its drawer"));
+        let books = [
+            "* A\n",
+            "* A\n\n:PROPERTIES:\n:VIN: 7\n:END:\n",
+            "* A\n:PROPERTIES:\n",
+            "* A\n:PROPERTIES:\n x\n:END:\n",
+            "* A\nx\n:PROPERTIES:\n:VIN: 7\n:END:\n",
+            "* A\n:VIN: 7\n:END:\n",
+        ];
+        for book in books {
+            let book = book.as_bytes();
+            assert_eq!(fuel(book, HOUSE), last_of(book, b"Fuel", None));
+        }
+    }
+
+    #[test]
+    fn an_identity_is_never_a_default() {
+        let book = b"* A\n:PROPERTIES:\n:FUEL: 98\n:END:\n";
+        for key in ["VIN", "vin", "Request"] {
+            let wanted = at(1, &format!("no {key} in its drawer"));
+            for house in [HOUSE, b""] {
+                assert_eq!(last_of(book, key.as_bytes(), Some(house)), wanted);
+            }
+        }
+    }
+
+    #[test]
+    fn why_there_is_no_default() {
+        let houses = [
+            ("* House\n:PROPERTIES:\n:END:\n", " or the defaults"),
+            (
+                "* House\n:PROPERTIES:\n:FUEL: \n:END:\n",
+                ", empty in the defaults",
+            ),
+            ("98\n", "; in the defaults: there is no heading"),
+            (
+                "* House\n",
+                "; in the defaults: this heading has no property drawer",
+            ),
+            (
+                "* House\n\n:PROPERTIES:\n:FUEL: 98\n:END:\n",
+                "; in the defaults: a blank line stands above the property drawer",
+            ),
+            (
+                "* House\n:PROPERTIES:\n:FUEL: 98\n",
+                "; in the defaults: the property drawer is never closed",
+            ),
+            (
+                "x\n\n\n* House\n:PROPERTIES:\n FUEL 98\n:END:\n",
+                "; in the defaults: line 6 is no property: FUEL 98",
+            ),
+            (
+                "* House\n:PROPERTIES:\n\n:END:\n",
+                "; in the defaults: line 3 is no property: it is blank",
+            ),
+        ];
+        for (house, why) in houses {
+            let wanted = at(3, &format!("no Fuel in its drawer{why}"));
+            assert_eq!(fuel(LACKING, house.as_bytes()), wanted, "{house:?}");
         }
     }
 }

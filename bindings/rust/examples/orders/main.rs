@@ -1,6 +1,7 @@
 //! The clerk's tool: lists the headings of order books with their VINs and deadlines,
 //! or warns of those whose VIN is missing, in the `file:line: text` form that editors
-//! jump by. `orders --help` tells its use.
+//! jump by. Another property than the VIN may come from the house defaults.
+//! `orders --help` tells its use.
 
 mod arguments;
 mod entry;
@@ -13,6 +14,8 @@ use std::env;
 use std::error::Error;
 use std::io::{self, ErrorKind, Write};
 use std::process::ExitCode;
+
+use comaltzex::{LookupRefusal, TEXT_LIMIT};
 
 use arguments::{Command, Request};
 use report::Report;
@@ -27,7 +30,8 @@ enum Status {
     Good = 0,
     /// Warnings were printed.
     Warned = 1,
-    /// The command line is wrong, a book was not read, or not all was written.
+    /// The command line is wrong, a book or the defaults were not read, or not all was
+    /// written.
     Failed = 2,
 }
 
@@ -41,11 +45,19 @@ fn main() -> ExitCode {
     ExitCode::from(status as u8)
 }
 
-/// Reports on each book in turn, and gives the worst status.
+/// Reports on each book in turn, and gives the worst status. Without the defaults that
+/// were asked for, what a drawer lacks would be told wrong, and no book is read.
 fn report_all(request: &Request) -> Status {
+    match request.defaults.as_ref().map(read_defaults).transpose() {
+        Ok(defaults) => report_each(request, defaults.as_deref()),
+        Err(status) => status,
+    }
+}
+
+fn report_each(request: &Request, defaults: Option<&[u8]>) -> Status {
     let mut worst = Status::Good;
     for source in &request.books {
-        match report_on(source, request) {
+        match report_on(source, request, defaults) {
             Ok(report) => {
                 worst = worst.max(status_of(&report));
                 if let Err(status) = print(&report.lines) {
@@ -58,8 +70,22 @@ fn report_all(request: &Request) -> Status {
     worst
 }
 
-fn report_on(source: &Source, request: &Request) -> Result<Report, Box<dyn Error>> {
-    Ok(Report::new(source.name(), &source.contents()?, request)?)
+fn report_on(
+    source: &Source,
+    request: &Request,
+    defaults: Option<&[u8]>,
+) -> Result<Report, Box<dyn Error>> {
+    let book = source.contents()?;
+    Ok(Report::new(source.name(), &book, request, defaults)?)
+}
+
+/// The text of the defaults, if it can be looked up. An error is how to end.
+fn read_defaults(source: &Source) -> Result<Vec<u8>, Status> {
+    match source.contents() {
+        Ok(text) if text.len() <= TEXT_LIMIT => Ok(text),
+        Ok(_) => Err(complain_of(source.name(), &LookupRefusal::TooLong)),
+        Err(error) => Err(complain_of(source.name(), &error)),
+    }
 }
 
 fn status_of(report: &Report) -> Status {

@@ -15,11 +15,17 @@ pub struct Report {
 
 impl Report {
     /// The list of a book's headings, or the warnings of what is missing.
-    pub fn new(name: &[u8], book: &[u8], request: &Request) -> Result<Report, Refusal> {
+    pub fn new(
+        name: &[u8],
+        book: &[u8],
+        request: &Request,
+        defaults: Option<&[u8]>,
+    ) -> Result<Report, Refusal> {
         let records: Vec<Record> = Table::read(book)?.records().collect();
         let mut lines = Vec::new();
         for entry in entries(&records) {
-            if let Some((line, text)) = text_of(book, &entry, request) {
+            let finding = find(book, &entry, &request.key, defaults);
+            if let Some((line, text)) = text_of(book, &entry, finding, request) {
                 lines.extend_from_slice(name);
                 let line = line + 1; // an editor counts from 1
                 lines.extend_from_slice(format!(":{line}: {text}\n").as_bytes());
@@ -34,8 +40,12 @@ impl Report {
 }
 
 /// What is printed of a heading, if anything, and the line that this is about.
-fn text_of(book: &[u8], entry: &Entry, request: &Request) -> Option<(usize, String)> {
-    let finding = find(book, entry, &request.key);
+fn text_of(
+    book: &[u8],
+    entry: &Entry,
+    finding: Finding,
+    request: &Request,
+) -> Option<(usize, String)> {
     let title = title(book, entry);
     if !request.missing {
         let (line, what) = listed(entry, finding, &request.key);
@@ -45,18 +55,17 @@ fn text_of(book: &[u8], entry: &Entry, request: &Request) -> Option<(usize, Stri
     let fault = match finding {
         Finding::Missing(fault) => fault,
         Finding::NoOrder(fault) if request.all => fault,
-        Finding::NoOrder(_) | Finding::Value(_) => return None,
+        Finding::NoOrder(_) | Finding::Value(_) | Finding::Default(_) => return None,
     };
     Some((fault.line, format!("warning: {title}  {}", fault.why)))
 }
 
 /// A finding in the list, and the line that it is about.
 fn listed(entry: &Entry, finding: Finding, key: &[u8]) -> (usize, String) {
+    let what = |value| format!("{} {}", printable(key), printable(value));
     match finding {
-        Finding::Value(value) => {
-            let (key, value) = (printable(key), printable(value));
-            (entry.heading.line, format!("{key} {value}"))
-        }
+        Finding::Value(value) => (entry.heading.line, what(value)),
+        Finding::Default(value) => (entry.heading.line, what(value) + " (default)"),
         Finding::Missing(fault) | Finding::NoOrder(fault) => (fault.line, fault.why),
     }
 }
@@ -101,7 +110,12 @@ mod tests {
 
     #[track_caller]
     fn check(book: &[u8], request: &Request, wanted: &str) {
-        let report = Report::new(b"b.org", book, request).unwrap();
+        check_with_defaults(book, request, None, wanted);
+    }
+
+    #[track_caller]
+    fn check_with_defaults(book: &[u8], request: &Request, defaults: Option<&[u8]>, wanted: &str) {
+        let report = Report::new(b"b.org", book, request, defaults).unwrap();
         assert_eq!(String::from_utf8(report.lines).unwrap(), wanted);
         assert_eq!(report.has_warnings, wanted.contains("warning: "));
     }
@@ -147,6 +161,26 @@ mod tests {
     }
 
     #[test]
+    fn defaults_are_marked() {
+        let book = b"* One\n:PROPERTIES:\n:FUEL: 102\n:END:\n\
+            * Two\nDEADLINE: <2026-11-20>\n:PROPERTIES:\n:VIN: 7\n:END:\n\
+            * Three\n\n:PROPERTIES:\n:END:\n\
+            * Four\n:PROPERTIES:\n:FUEL:\n:END:\n";
+        let house: &[u8] = b"* House\n:PROPERTIES:\n:FUEL: 98\x1b\n:END:\n";
+        let wanted = "\
+            b.org:1: One  FUEL 102\n\
+            b.org:5: Two  FUEL 98\\u{1b} (default)  deadline <2026-11-20>\n\
+            b.org:11: Three  a blank line stands above the property drawer\n\
+            b.org:16: Four  empty FUEL in its drawer\n";
+        check_with_defaults(book, &request(&["--key=FUEL"]), Some(house), wanted);
+        let wanted = "\
+            b.org:11: warning: Three  a blank line stands above the property drawer\n\
+            b.org:16: warning: Four  empty FUEL in its drawer\n";
+        let missing = request(&["--missing", "--key=FUEL"]);
+        check_with_defaults(book, &missing, Some(house), wanted);
+    }
+
+    #[test]
     fn deadlines_stand_last() {
         let book = b"* One\nDEADLINE: <2026-11-20 Fri> CLOSED: [2026-11-16]\n\
             :PROPERTIES:\n:VIN: 7\n:END:\n\
@@ -173,14 +207,14 @@ mod tests {
 
     #[test]
     fn a_name_is_printed_byte_for_byte() {
-        let report = Report::new(b"\xff\x1b.org", b"* A\n", &request(&[])).unwrap();
+        let report = Report::new(b"\xff\x1b.org", b"* A\n", &request(&[]), None).unwrap();
         assert_eq!(report.lines, b"\xff\x1b.org:1: A  no property drawer\n");
     }
 
     #[test]
     fn a_long_book_is_refused() {
         let book = vec![b'\n'; comaltzex::TEXT_LIMIT + 1];
-        let report = Report::new(b"b.org", &book, &request(&[]));
+        let report = Report::new(b"b.org", &book, &request(&[]), None);
         assert_eq!(report, Err(Refusal::TooLong));
     }
 }

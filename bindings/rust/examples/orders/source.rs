@@ -1,4 +1,4 @@
-//! Where a book comes from.
+//! Where a book comes from, or the text of the house defaults.
 
 use std::ffi::OsString;
 use std::fs::File;
@@ -33,16 +33,16 @@ impl Source {
         }
     }
 
-    /// The bytes of the book. Of one over the limit, as many as show that it is.
+    /// The bytes of the text. Of one over the limit, as many as show that it is.
     pub fn contents(&self) -> io::Result<Vec<u8>> {
         match self {
             Source::File(name) => front(&mut File::open(name)?),
             Source::Stdin => {
                 let mut input = io::stdin().lock();
-                let book = front(&mut input)?;
+                let text = front(&mut input)?;
                 // the rest is taken too: whoever writes it is not to fail
                 io::copy(&mut input, &mut io::sink())?;
-                Ok(book)
+                Ok(text)
             }
         }
     }
@@ -50,9 +50,9 @@ impl Source {
 
 /// What is read up to one byte past the limit.
 fn front(input: &mut impl Read) -> io::Result<Vec<u8>> {
-    let mut book = Vec::new();
-    input.take(TEXT_LIMIT as u64 + 1).read_to_end(&mut book)?;
-    Ok(book)
+    let mut text = Vec::new();
+    input.take(TEXT_LIMIT as u64 + 1).read_to_end(&mut text)?;
+    Ok(text)
 }
 
 #[cfg(test)]
@@ -67,7 +67,7 @@ mod tests {
     }
 
     #[test]
-    fn long_books_are_cut_past_the_limit() {
+    fn long_texts_are_cut_past_the_limit() {
         let length = |n| front(&mut &vec![b'x'; n][..]).unwrap().len();
         assert_eq!(length(TEXT_LIMIT), TEXT_LIMIT);
         assert_eq!(length(TEXT_LIMIT + 1), TEXT_LIMIT + 1);
