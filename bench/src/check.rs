@@ -43,7 +43,8 @@ pub fn passes() -> bool {
     ];
     held.extend(texts::hostile(HOSTILE_SIZE).iter().map(time_held));
     held.extend(calls_held());
-    held.extend(refused_lookups_held());
+    held.extend(each_held("look", contest::refused_lookup, texts::refused));
+    held.extend(each_held("house", contest::house_default, texts::defaults));
     held.push(days_held());
     held.iter().all(|&held| held)
 }
@@ -60,12 +61,16 @@ fn calls_held() -> [bool; 3] {
     ]
 }
 
-/// The lookups that are refused, each likewise.
-fn refused_lookups_held() -> Vec<bool> {
-    let [short, long] = GROWING_SIZES.map(texts::refused);
+/// A call on several texts, each likewise.
+fn each_held<const N: usize>(
+    column: &str,
+    call: Contender,
+    texts: fn(usize) -> [Text; N],
+) -> Vec<bool> {
+    let [short, long] = GROWING_SIZES.map(texts);
     let pairs = short.into_iter().zip(long);
     pairs
-        .map(|(short, long)| growth_held("look", contest::refused_lookup, [short, long]))
+        .map(|(short, long)| growth_held(column, call, [short, long]))
         .collect()
 }
 

@@ -1,9 +1,10 @@
 //! Timing several functions on one text, in turns.
 
 use std::hint::black_box;
+use std::ops::Range;
 use std::time::{Duration, Instant};
 
-use comaltzex::{Date, LookupRefusal};
+use comaltzex::{Date, LookupRefusal, Whose};
 
 use crate::count;
 
@@ -28,6 +29,20 @@ pub fn refused_lookup(text: &[u8], _: &mut [u32]) {
 /// Why the text's first heading has no property.
 pub fn refusal(text: &[u8]) -> LookupRefusal {
     comaltzex::lookup(text, 0, b"VIN").expect_err("the heading has no property drawer")
+}
+
+/// The FUEL of an order that has none, from the text as its defaults.
+pub fn house_default(text: &[u8], _: &mut [u32]) {
+    black_box(default_fuel(black_box(text)));
+}
+
+/// Where that FUEL stands in the text.
+pub fn default_fuel(defaults: &[u8]) -> Range<usize> {
+    let order = b"* A\n:PROPERTIES:\n:VIN: 7\n:END:\n";
+    let fuel = comaltzex::lookup_with_defaults(order, 0, defaults, b"FUEL");
+    let fuel = fuel.expect("the defaults have a FUEL");
+    assert_eq!(fuel.whose, Whose::Defaults);
+    fuel.answer
 }
 
 /// The timestamp that is the text.

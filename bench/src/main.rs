@@ -1,6 +1,7 @@
 //! How long a reading takes beside a count of byte 10 over the same text and
 //! beside an independent plain reader; a search for a closer, a refused lookup, a
-//! timestamp and a planning line beside the count; and a count of days.
+//! house default, a timestamp and a planning line beside the count; and a count of
+//! days.
 //!
 //!     bench            prints the table
 //!     bench --check    exits with 1 if a limit of `check` is passed

@@ -2,7 +2,7 @@
 
 use std::time::Duration;
 
-use comaltzex::RECORD_SIZE;
+use comaltzex::{Kind, RECORD_SIZE};
 
 use crate::contest::{self, contest, median, median_ratio, Contender, Effort};
 use crate::texts::{self, Text};
@@ -28,6 +28,8 @@ round's own. The machine is noisy: only ratios within one run count.
   find    comaltzex_find_closer, from the first line to the end
   look    comaltzex_lookup at the first heading, refused with that number; of 9 the
           crate counts the lines before, too
+  house   comaltzex_lookup_with_defaults of a key that the order lacks, in a text
+          that is the defaults; the value starts at that byte
   stamp   comaltzex_timestamp, on a text that is one timestamp
   plan    comaltzex_planning, on a heading and its planning line
   days    comaltzex_days_between, from 1 January to 31 December: nanoseconds a call
@@ -38,6 +40,7 @@ pub fn print() {
     print_readings();
     print_searches();
     print_refused_lookups();
+    print_defaults();
     print_stamps();
     print_plans();
     print_days();
@@ -74,6 +77,13 @@ fn print_refused_lookups() {
     print_call_head("refused lookup", "number", "look");
     for text in SIZES.into_iter().flat_map(texts::refused) {
         print_call(&text, agreed_refusal(&text), contest::refused_lookup);
+    }
+}
+
+fn print_defaults() {
+    print_call_head("defaults", "start", "house");
+    for text in SIZES.into_iter().flat_map(texts::defaults) {
+        print_call(&text, agreed_default(&text), contest::house_default);
     }
 }
 
@@ -171,6 +181,26 @@ fn agreed_refusal(text: &Text) -> usize {
         text.name
     );
     ours as usize
+}
+
+/// Where a default starts; the plain reader must find it at the text's first heading.
+fn agreed_default(text: &Text) -> usize {
+    let ours = contest::default_fuel(&text.bytes);
+    let theirs = plain_reader::lookup(&text.bytes, first_heading(text), b"FUEL");
+    assert_eq!(
+        (0, ours.start, ours.end, 0),
+        theirs,
+        "the defaults differ on the text `{}`",
+        text.name
+    );
+    ours.start
+}
+
+/// Where the first heading of the text's table starts.
+fn first_heading(text: &Text) -> usize {
+    let table = comaltzex::Table::read(&text.bytes).expect("the text can be read");
+    let heading = table.records().find(|record| record.kind == Kind::Heading);
+    heading.expect("the text has a heading").span.start
 }
 
 /// How many lines a search compares that finds no closer; both readers must agree on it.

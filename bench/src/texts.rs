@@ -103,6 +103,18 @@ pub fn refused(size: usize) -> [Text; 3] {
     .map(|(name, bytes)| Text { name, bytes })
 }
 
+/// Defaults of which all is looked at for a FUEL: it is the last of many properties, or its
+/// heading stands last, below prose.
+pub fn defaults(size: usize) -> [Text; 2] {
+    let drawer = filled("* D\n:PROPERTIES:\n", ":BOOST: 2\n", size);
+    let heading = "* D\n:PROPERTIES:\n:FUEL: 98\n:END:\n";
+    [
+        ("default last", ended(drawer, ":FUEL: 98\n:END:\n")),
+        ("heading last", ended(prose(size), heading)),
+    ]
+    .map(|(name, bytes)| Text { name, bytes })
+}
+
 /// A timestamp with all its parts, and as many blanks between them as fit the size.
 pub fn spaced_stamp(size: usize) -> Text {
     let parts = ["<2026-11-16", "Mon", "09:30-10:00", "+1w/2w", "-3d>"];
@@ -331,6 +343,23 @@ mod tests {
         let start = text.len() - b"x\n:END:\n".len();
         let line = text.iter().filter(|&&byte| byte == b'\n').count() - 2;
         assert_eq!(refusal, LookupRefusal::NotProperty { start, line });
+    }
+
+    #[test]
+    fn a_default_stands_at_the_end_of_its_text() {
+        for size in [4096, 65_536] {
+            let [default_last, heading_last] = defaults(size).map(|text| text.bytes);
+            assert!(default_last.len() <= size && default_last.len() > size - 10);
+            assert!(heading_last.len() <= size && heading_last.len() > size - 90);
+            let heading = heading_last.len() - "* D\n:PROPERTIES:\n:FUEL: 98\n:END:\n".len();
+            for (text, heading) in [(default_last, 0), (heading_last, heading)] {
+                let table = comaltzex::Table::read(&text).unwrap();
+                let mut headings = table.records().filter(|r| r.kind == Kind::Heading);
+                assert_eq!(headings.next().unwrap().span, heading..text.len());
+                let end = text.len() - "\n:END:\n".len();
+                assert_eq!(comaltzex::lookup(&text, heading, b"FUEL"), Ok(end - 2..end));
+            }
+        }
     }
 
     #[test]
