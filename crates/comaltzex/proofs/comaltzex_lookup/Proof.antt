@@ -1,6 +1,6 @@
 -- `comaltzex::comaltzex_lookup` meets its contract: the numbers are those of the answer that `lookup` gives.
 -- Assumes nothing.
-use mathlib.Core.Path.{_≡_, refl}
+use mathlib.Core.Path.{refl}
 use mathlib.Core.List.{List}
 use Prim.Native.Nat.{ℕ}
 use borrow.Author.Needs.{needs}
