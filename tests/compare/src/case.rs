@@ -7,7 +7,8 @@ use plain_reader::{Date, NO_STAMP, NUMBERS_OF_A_RECORD};
 
 use crate::escape::unescape;
 use crate::subject::{
-    CloserAnswer, DaysAnswer, LookupAnswer, PlanningAnswer, ReadAnswer, TimestampAnswer,
+    CloserAnswer, DaysAnswer, DefaultedAnswer, LookupAnswer, PlanningAnswer, ReadAnswer,
+    TimestampAnswer,
 };
 use crate::written::{plan, stamp};
 
@@ -20,11 +21,28 @@ const WITHOUT_LINE_NUMBER: usize = NUMBERS_OF_A_RECORD - 1;
 /// The place of a record's start among its numbers.
 const START: usize = 1;
 
-/// A text and what is expected of it.
+/// A text, perhaps a defaults text beside it, and what is expected of them.
 pub struct Case {
     pub name: String,
     pub text: Vec<u8>,
+    pub defaults: Option<Vec<u8>>,
     pub expectations: Vec<Expectation>,
+}
+
+impl Case {
+    fn new(name: &str) -> Self {
+        Case {
+            name: name.to_string(),
+            text: Vec::new(),
+            defaults: None,
+            expectations: Vec::new(),
+        }
+    }
+
+    /// The text that a line about a text adds to.
+    fn open_text(&mut self) -> &mut Vec<u8> {
+        self.defaults.as_mut().unwrap_or(&mut self.text)
+    }
 }
 
 pub enum Expectation {
@@ -48,6 +66,13 @@ pub enum Expectation {
         at: usize,
         key: Vec<u8>,
         answer: LookupAnswer,
+        value: Option<Vec<u8>>,
+    },
+    Defaulted {
+        at: usize,
+        key: Vec<u8>,
+        answer: DefaultedAnswer,
+        /// A part of the text whose answer it is.
         value: Option<Vec<u8>>,
     },
     Closer {
@@ -105,13 +130,22 @@ pub fn cases_of(path: &Path) -> Result<Vec<Case>, String> {
     if cases.is_empty() {
         return Err(format!("{}: no cases", path.display()));
     }
-    match cases.iter().find(|case| expects_nothing(case)) {
-        Some(case) => Err(format!(
-            "{}: {}: nothing expected",
-            path.display(),
-            case.name
-        )),
-        None => Ok(cases),
+    let meaning = |case: &Case| {
+        check_meaning(case).map_err(|error| format!("{}: {}: {error}", path.display(), case.name))
+    };
+    cases.iter().try_for_each(meaning).map(|()| cases)
+}
+
+/// Refuses a case that expects nothing, of its text or of its defaults text.
+fn check_meaning(case: &Case) -> Result<(), &'static str> {
+    if expects_nothing(case) {
+        return Err("nothing expected");
+    }
+    let is_defaulted = |expected: &Expectation| matches!(expected, Expectation::Defaulted { .. });
+    match (&case.defaults, case.expectations.iter().any(is_defaulted)) {
+        (Some(_), false) => Err("defaults, and nothing expected of them"),
+        (None, true) => Err("defaulted, and no defaults"),
+        _ => Ok(()),
     }
 }
 
@@ -126,11 +160,7 @@ fn parse_line(line: &str, directory: &Path, cases: &mut Vec<Case>) -> Result<(),
         return Ok(());
     }
     if let Some(name) = line.strip_prefix("case ") {
-        cases.push(Case {
-            name: name.to_string(),
-            text: Vec::new(),
-            expectations: Vec::new(),
-        });
+        cases.push(Case::new(name));
         return Ok(());
     }
     let case = cases.last_mut().ok_or("no case is open")?;
@@ -138,16 +168,28 @@ fn parse_line(line: &str, directory: &Path, cases: &mut Vec<Case>) -> Result<(),
         return add_record(line, case);
     }
     if let Some(escaped) = line.strip_prefix('>') {
-        case.text.extend(unescape(escaped)?);
-        case.text.push(b'\n');
+        case.open_text().extend(unescape(escaped)?);
+        case.open_text().push(b'\n');
         return Ok(());
     }
     let (word, rest) = line.split_once(' ').unwrap_or((line, ""));
-    if add_text(word, rest, directory, &mut case.text)? {
+    if word == "defaults" {
+        alone(word, rest)?;
+        return open_defaults(case);
+    }
+    if add_text(word, rest, directory, case.open_text())? {
         return Ok(());
     }
     case.expectations.push(expectation(word, rest)?);
     Ok(())
+}
+
+/// From here on lines about a text are about the defaults text.
+fn open_defaults(case: &mut Case) -> Result<(), String> {
+    match case.defaults.replace(Vec::new()) {
+        Some(_) => Err("defaults twice".to_string()),
+        None => Ok(()),
+    }
 }
 
 /// Adds to the text what a line other than `>` says; false when the line is not about the text.
@@ -230,6 +272,7 @@ fn expectation(word: &str, rest: &str) -> Result<Expectation, String> {
             }
         }
         "lookup" => lookup_expectation(rest)?,
+        "defaulted" => defaulted_expectation(rest)?,
         "closer" => closer_expectation(rest)?,
         "stamp" => timestamp_expectation(rest)?,
         "planning" => planning_expectation(rest)?,
@@ -310,24 +353,63 @@ fn date(word: &str) -> Result<Date, String> {
 }
 
 fn lookup_expectation(rest: &str) -> Result<Expectation, String> {
-    let form = "lookup AT \"KEY\" -> NUMBER START END, perhaps further FURTHER, perhaps \"VALUE\"";
-    let (call, answer) = rest.split_once(" -> ").ok_or(form)?;
-    let (at, key) = call.split_once(' ').ok_or(form)?;
+    let line = lookup_line(rest, "lookup AT \"KEY\" -> NUMBER START END")?;
+    let [given, start, end] = words(line.answer)?;
+    Ok(Expectation::Lookup {
+        at: line.at,
+        key: line.key,
+        answer: (number(given)?, number(start)?, number(end)?, line.further),
+        value: line.value,
+    })
+}
+
+fn defaulted_expectation(rest: &str) -> Result<Expectation, String> {
+    let line = lookup_line(rest, "defaulted AT \"KEY\" -> NUMBER WHOSE START END")?;
+    let [given, whose, start, end] = words(line.answer)?;
+    let whose = match whose {
+        "1" => 1,
+        "2" => 2,
+        _ => return Err(format!("{whose:?} names no text")),
+    };
+    Ok(Expectation::Defaulted {
+        at: line.at,
+        key: line.key,
+        answer: (
+            number(given)?,
+            whose,
+            number(start)?,
+            number(end)?,
+            line.further,
+        ),
+        value: line.value,
+    })
+}
+
+/// What a line about a lookup says.
+struct LookupLine<'l> {
+    at: usize,
+    key: Vec<u8>,
+    /// The words between the arrow and the further number.
+    answer: &'l str,
+    further: usize,
+    value: Option<Vec<u8>>,
+}
+
+/// The parts of a line of that form, after which a further number and a value may stand.
+fn lookup_line<'l>(rest: &'l str, form: &str) -> Result<LookupLine<'l>, String> {
+    let told = || format!("{form}, perhaps further FURTHER, perhaps \"VALUE\"");
+    let (call, answer) = rest.split_once(" -> ").ok_or_else(told)?;
+    let (at, key) = call.split_once(' ').ok_or_else(told)?;
     let (answer, value) = match answer.split_once(" \"") {
         Some((answer, value)) => (answer, Some(format!("\"{value}"))),
         None => (answer, None),
     };
     let (answer, further) = answer.split_once(" further ").unwrap_or((answer, "0"));
-    let [given, start, end] = words(answer)?;
-    Ok(Expectation::Lookup {
+    Ok(LookupLine {
         at: number(at)?,
         key: quoted(key)?,
-        answer: (
-            number(given)?,
-            number(start)?,
-            number(end)?,
-            number(further)?,
-        ),
+        answer,
+        further: number(further)?,
         value: value.map(|value| quoted(&value)).transpose()?,
     })
 }
@@ -415,6 +497,75 @@ mod tests {
                 lookup_answer(&format!("0 \"a\" -> {answer}")).is_err(),
                 "{answer}"
             );
+        }
+    }
+
+    fn defaulted_answer(rest: &str) -> Result<DefaultedAnswer, String> {
+        match defaulted_expectation(rest)? {
+            Expectation::Defaulted { answer, .. } => Ok(answer),
+            _ => Err("no lookup with defaults".to_string()),
+        }
+    }
+
+    #[test]
+    fn a_lookup_with_defaults_names_a_text() {
+        assert_eq!(
+            defaulted_answer("0 \"a\" -> 0 1 3 4 \"x\""),
+            Ok((0, 1, 3, 4, 0))
+        );
+        assert_eq!(
+            defaulted_answer("0 \"a\" -> 9 2 0 0 further 17"),
+            Ok((9, 2, 0, 0, 17))
+        );
+        for answer in ["0 0 3 4", "0 3 3 4", "0 3 4", "0 1 3 4 17", "0 x 3 4"] {
+            assert!(
+                defaulted_answer(&format!("0 \"a\" -> {answer}")).is_err(),
+                "{answer}"
+            );
+        }
+    }
+
+    /// The only case of the lines, and whether it means something.
+    fn case(lines: &[&str]) -> Result<Case, String> {
+        let mut cases = vec![Case::new("one")];
+        for line in lines {
+            parse_line(line, Path::new("."), &mut cases)?;
+        }
+        let case = cases.remove(0);
+        check_meaning(&case)?;
+        Ok(case)
+    }
+
+    #[test]
+    fn text_lines_after_defaults_are_the_defaults() {
+        let case = case(&[
+            ">a",
+            "repeat 2 b",
+            "defaults",
+            ">c",
+            "repeat 2 d",
+            ">",
+            "no-newline",
+            "defaulted 0 \"a\" -> 4 1 0 0",
+        ]);
+        let case = case.unwrap_or_else(|told| panic!("{told}"));
+        assert_eq!(case.text, b"a\nbb");
+        assert_eq!(case.defaults.as_deref(), Some(b"c\ndd".as_slice()));
+    }
+
+    #[test]
+    fn defaults_and_what_is_expected_of_them_belong_together() {
+        let defaulted = "defaulted 0 \"a\" -> 4 1 0 0";
+        assert!(case(&["defaults", defaulted]).is_ok());
+        assert!(case(&["defaults", defaulted, "count 1"]).is_ok());
+        for lines in [
+            &["defaults", "count 1"][..],
+            &["defaults"],
+            &[defaulted],
+            &["defaults", "defaults", defaulted],
+            &["defaults x", defaulted],
+        ] {
+            assert!(case(lines).is_err(), "{lines:?}");
         }
     }
 

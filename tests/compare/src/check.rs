@@ -3,11 +3,13 @@
 use plain_reader::{Reading, Record, NUMBERS_OF_A_RECORD};
 
 use crate::dates::{check_dates, DateTally};
+use crate::defaults::check_defaults;
 use crate::drawers::{self, check_drawers, Lookup};
 use crate::escape::escape;
 use crate::proper::check_proper;
 use crate::random::Random;
 use crate::searches::{self, check_searches};
+use crate::situations;
 use crate::subject::{fresh_table, LIBRARY, PLAIN_READER};
 use crate::words::{BAD_KEYS, KEYS};
 
@@ -21,12 +23,14 @@ pub const SMALL: usize = 400;
 const NODE_PROPERTY: u32 = 6;
 
 /// How many answers of each number and records of each kind the plain reader gave, and how many of
-/// its lookups, its searches for closers and its answers about dates met what.
+/// its lookups, with house defaults too, its searches for closers and its answers about dates met
+/// what.
 #[derive(Default)]
 pub struct Tally {
     pub readings: [usize; 4],
     pub lookups: [usize; 11],
     pub drawers: drawers::Met,
+    pub defaults: situations::Met,
     pub kinds: [usize; 17],
     pub searches: searches::Met,
     pub dates: DateTally,
@@ -50,7 +54,8 @@ pub fn check(text: &[u8], random: &mut Random, tally: &mut Tally) -> Result<(), 
     check_lookups_elsewhere(text, random, tally)?;
     check_drawers(text, records)?;
     check_searches(text, records, random, &mut tally.searches)?;
-    check_dates(text, random, &mut tally.dates)
+    check_dates(text, random, &mut tally.dates)?;
+    check_defaults(text, records, random, &mut tally.defaults)
 }
 
 /// The table; none of a refused reading.
@@ -201,14 +206,16 @@ fn property_keys(text: &[u8], records: &[Record]) -> Vec<Vec<u8>> {
         .collect()
 }
 
-fn property_name(line: &[u8]) -> &[u8] {
+/// The name on a line that looks like a node property, less its `+`; else empty.
+pub fn property_name(line: &[u8]) -> &[u8] {
     let run = line.trim_ascii().split(u8::is_ascii_whitespace).next();
     let marked = run.and_then(|run| run.strip_prefix(b":")?.strip_suffix(b":"));
     let name = marked.unwrap_or_default();
     name.strip_suffix(b"+").unwrap_or(name)
 }
 
-fn other_case(name: &[u8]) -> Vec<u8> {
+/// The name with every letter in the other case.
+pub fn other_case(name: &[u8]) -> Vec<u8> {
     let swap = |byte: &u8| {
         if byte.is_ascii_alphabetic() {
             byte ^ 32

@@ -7,7 +7,7 @@ use crate::check::SMALL;
 use crate::subject::{LookupAnswer, LIBRARY};
 
 /// The kind of a heading.
-const HEADING: u32 = 2;
+pub const HEADING: u32 = 2;
 
 /// In a small text: the reading has a property drawer under a heading exactly when the lookup has.
 pub fn check_drawers(text: &[u8], records: &[Record]) -> Result<(), String> {
@@ -130,7 +130,8 @@ fn lines_from(text: &[u8], at: usize) -> impl Iterator<Item = &[u8]> {
     rest.split_inclusive(|byte| *byte == 10)
 }
 
-fn is_heading(line: &[u8]) -> bool {
+/// The line begins with stars and byte 32.
+pub fn is_heading(line: &[u8]) -> bool {
     let stars = line.iter().take_while(|byte| **byte == b'*').count();
     stars > 0 && line.get(stars) == Some(&32)
 }

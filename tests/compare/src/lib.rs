@@ -4,13 +4,16 @@
 pub mod case;
 pub mod check;
 pub mod dates;
+pub mod defaults;
 pub mod drawers;
 pub mod escape;
+pub mod house;
 pub mod library;
 pub mod proper;
 pub mod random;
 pub mod run;
 pub mod searches;
+pub mod situations;
 pub mod stamps;
 pub mod subject;
 pub mod texts;

@@ -17,6 +17,15 @@ struct LookupAnswer {
 }
 
 #[repr(C)]
+struct DefaultedAnswer {
+    number: u32,
+    whose: u32,
+    start: usize,
+    end: usize,
+    further: usize,
+}
+
+#[repr(C)]
 struct FindCloserAnswer {
     found: u32,
     start: usize,
@@ -59,6 +68,16 @@ extern "C" {
         key_len: usize,
     ) -> LookupAnswer;
 
+    fn comaltzex_lookup_with_defaults(
+        order: *const u8,
+        order_len: usize,
+        at: usize,
+        defaults: *const u8,
+        defaults_len: usize,
+        key: *const u8,
+        key_len: usize,
+    ) -> DefaultedAnswer;
+
     fn comaltzex_find_closer(
         text: *const u8,
         len: usize,
@@ -95,6 +114,35 @@ pub fn lookup(text: &[u8], at: usize, key: &[u8]) -> (u32, usize, usize, usize) 
     let answer =
         unsafe { comaltzex_lookup(text.as_ptr(), text.len(), at, key.as_ptr(), key.len()) };
     (answer.number, answer.start, answer.end, answer.further)
+}
+
+/// Looks `key` up at byte `at` of `order`, then in `defaults`; gives the answer's number, whose it
+/// is, the value's two ends and the further number.
+pub fn lookup_with_defaults(
+    order: &[u8],
+    at: usize,
+    defaults: &[u8],
+    key: &[u8],
+) -> (u32, u32, usize, usize, usize) {
+    // SAFETY: each pointer comes with the length of the slice it belongs to.
+    let answer = unsafe {
+        comaltzex_lookup_with_defaults(
+            order.as_ptr(),
+            order.len(),
+            at,
+            defaults.as_ptr(),
+            defaults.len(),
+            key.as_ptr(),
+            key.len(),
+        )
+    };
+    (
+        answer.number,
+        answer.whose,
+        answer.start,
+        answer.end,
+        answer.further,
+    )
 }
 
 /// Finds the closer of the opener at byte `at` before byte `end`; gives whether it is found, its

@@ -8,14 +8,15 @@ use plain_reader::{Date, NUMBERS_OF_A_RECORD};
 use crate::case::{Case, Expectation, ExpectedRecord, Numbers};
 use crate::escape::escape;
 use crate::subject::{
-    fresh_table, CloserAnswer, DaysAnswer, LookupAnswer, PlanningAnswer, ReadAnswer, Subject,
-    TimestampAnswer,
+    fresh_table, CloserAnswer, DaysAnswer, DefaultedAnswer, LookupAnswer, PlanningAnswer,
+    ReadAnswer, Subject, TimestampAnswer,
 };
 
 /// What `subject` answers otherwise than the case expects.
 pub fn differences(case: &Case, subject: &Subject) -> Vec<String> {
     let run = Run {
         text: &case.text,
+        defaults: case.defaults.as_deref().unwrap_or_default(),
         subject,
         table: OnceCell::new(),
     };
@@ -25,6 +26,7 @@ pub fn differences(case: &Case, subject: &Subject) -> Vec<String> {
 
 struct Run<'c> {
     text: &'c [u8],
+    defaults: &'c [u8],
     subject: &'c Subject,
     /// The whole table, once it was read.
     table: OnceCell<Result<Vec<Numbers>, String>>,
@@ -57,6 +59,12 @@ impl Run<'_> {
                 answer,
                 value,
             } => self.check_lookup(*at, key, *answer, value.as_deref()),
+            Expectation::Defaulted {
+                at,
+                key,
+                answer,
+                value,
+            } => self.check_defaulted(*at, key, *answer, value.as_deref()),
             Expectation::Closer { at, end, answer } => self.check_closer(*at, *end, answer),
             Expectation::Timestamp { text, at, answer } => {
                 self.check_timestamp(text.as_deref(), *at, answer)
@@ -132,6 +140,22 @@ impl Run<'_> {
         let seen = (self.subject.lookup)(self.text, at, key);
         same(&call, &answer, &seen)?;
         let part = self.text.get(seen.1..seen.2).unwrap_or_default();
+        value.map_or(Ok(()), |value| same(&call, &escape(value), &escape(part)))
+    }
+
+    fn check_defaulted(
+        &self,
+        at: usize,
+        key: &[u8],
+        answer: DefaultedAnswer,
+        value: Option<&[u8]>,
+    ) -> Result<(), String> {
+        let call = format!("defaulted {at} \"{}\"", escape(key));
+        let seen = (self.subject.lookup_with_defaults)(self.text, at, self.defaults, key);
+        same(&call, &answer, &seen)?;
+        let (_, whose, start, end, _) = seen;
+        let text = if whose == 1 { self.text } else { self.defaults };
+        let part = text.get(start..end).unwrap_or_default();
         value.map_or(Ok(()), |value| same(&call, &escape(value), &escape(part)))
     }
 

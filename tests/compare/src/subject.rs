@@ -1,4 +1,5 @@
-//! What is tested: a reading call, a lookup, a search for a closer, and the calls about dates.
+//! What is tested: a reading call, a lookup, one with house defaults, a search for a closer, and
+//! the calls about dates.
 
 use plain_reader::{Date, StampNumbers};
 
@@ -9,6 +10,10 @@ pub type ReadAnswer = (u32, usize);
 
 /// The answer of a lookup: its number, the two ends of its part and the further number.
 pub type LookupAnswer = (u32, usize, usize, usize);
+
+/// The answer of a lookup with house defaults: its number, whose it is (1 the order's, 2 the
+/// defaults'), the two ends of its part in that text and the further number.
+pub type DefaultedAnswer = (u32, u32, usize, usize, usize);
 
 /// The answer of a search for a closer: is it found (1, else 0), the two ends of its line, and how
 /// many lines were compared.
@@ -28,6 +33,7 @@ pub struct Subject {
     pub name: &'static str,
     pub read: fn(&[u8], &mut [u32]) -> ReadAnswer,
     pub lookup: fn(&[u8], usize, &[u8]) -> LookupAnswer,
+    pub lookup_with_defaults: fn(&[u8], usize, &[u8], &[u8]) -> DefaultedAnswer,
     pub find_closer: fn(&[u8], usize, usize) -> CloserAnswer,
     pub timestamp: fn(&[u8], usize) -> TimestampAnswer,
     pub planning: fn(&[u8], usize) -> PlanningAnswer,
@@ -38,6 +44,7 @@ pub const PLAIN_READER: Subject = Subject {
     name: "plain reader",
     read: plain_reader::answer,
     lookup: plain_reader::lookup,
+    lookup_with_defaults: plain_reader::lookup_with_defaults,
     find_closer: plain_reader::closer_search,
     timestamp: plain_reader::timestamp,
     planning: plain_reader::planning,
@@ -48,6 +55,7 @@ pub const LIBRARY: Subject = Subject {
     name: "library",
     read: library::read,
     lookup: library::lookup,
+    lookup_with_defaults: library::lookup_with_defaults,
     find_closer: library::find_closer,
     timestamp: library::timestamp,
     planning: library::planning,

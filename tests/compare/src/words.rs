@@ -15,6 +15,12 @@ pub const BAD_KEYS: &[&[u8]] = &[
     b"", b"a+", b"+", b"a b", b" vin", b"vin\n", b"v\tin", b"vin\r", NAME_OF_65,
 ];
 
+/// Keys that are never taken from the defaults.
+#[rustfmt::skip]
+pub const RESERVED_KEYS: &[&[u8]] = &[
+    b"VIN", b"vin", b"REQUEST", b"Request", b"rEQUESt",
+];
+
 /// Single bytes and short pieces that rules speak of.
 #[rustfmt::skip]
 pub const LOOSE_PIECES: &[&[u8]] = &[
@@ -210,4 +216,37 @@ pub const ODD_LINES: &[&[u8]] = &[
 #[rustfmt::skip]
 pub const INNERMOST: &[&[u8]] = &[
     b"", b"text\n", b":a:\n:END:\n", b"#+begin_src\n#+end_src\n", b"#+begin_a\n",
+];
+
+/// First headings of defaults, some with text before them, and two that just miss.
+#[rustfmt::skip]
+pub const HOUSE_HEADINGS: &[&[u8]] = &[
+    b"* House\n", b"* House\n", b"* \n", b"*** House\n", b"x\n* House\n", b"\n\n** House\n",
+    b"*House\n", b" * House\n",
+];
+
+/// What may stand between that heading line and `:PROPERTIES:`; the last two do not belong there.
+#[rustfmt::skip]
+pub const UNDER_HOUSE_HEADINGS: &[&[u8]] = &[
+    b"", b"", b"", b"", b"", b"", b"SCHEDULED: <2026-01-05>\n", b"\n", b"x\n",
+];
+
+/// Names in defaults: keys of orders, the two that are never taken, some that are nearly these, and
+/// one that is too long for a key.
+#[rustfmt::skip]
+pub const HOUSE_NAMES: &[&[u8]] = &[
+    b"VIN", b"vin", b"REQUEST", b"Request", b"VIN2", b"REQUESTS", b"FUEL", b"a", b"A", b"a:b", b":",
+    b"END", b"\xC3\xA9", b"nowhere", NAME_OF_64, NAME_OF_65,
+];
+
+/// What follows the name.
+#[rustfmt::skip]
+pub const HOUSE_VALUES: &[&[u8]] = &[
+    b": 1\n", b": 98 ron \n", b":\n", b"+: 2\n", b":\t3\r\n",
+];
+
+/// The ends of a drawer; those after the first four are wrong ones.
+#[rustfmt::skip]
+pub const HOUSE_CLOSERS: &[&[u8]] = &[
+    b":END:\n", b":END:\n", b":END:\n", b":end:\n", b"\n:END:\n", b"x\n:END:\n", b"",
 ];

@@ -14,10 +14,12 @@
 //! | order 1 | `stamp`, `numbers`, `planning`, `days`; rule 1 in `rules` |
 //! | order 2 | `lookup` |
 //! | order 3 | `closer` |
+//! | order 13 | `defaults` |
 
 mod answer;
 mod closer;
 mod days;
+mod defaults;
 mod line;
 mod lookup;
 mod numbers;
@@ -29,6 +31,7 @@ mod stamp;
 pub use answer::answer;
 pub use closer::closer_search;
 pub use days::{days_between, Date};
+pub use defaults::lookup_with_defaults;
 pub use lookup::lookup;
 pub use numbers::{timestamp, MomentNumbers, StampNumbers, NO_MOMENT, NO_STAMP};
 pub use planning::planning;

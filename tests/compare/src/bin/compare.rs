@@ -11,6 +11,7 @@ use comparison::drawers::REASONS;
 use comparison::escape::escape;
 use comparison::random::Random;
 use comparison::searches::MEETINGS;
+use comparison::situations::SITUATIONS;
 use comparison::texts::{text, CLASSES};
 
 const COUNT: u64 = 200_000;
@@ -58,8 +59,8 @@ fn main() -> ExitCode {
     ExitCode::SUCCESS
 }
 
-/// Did each class of text, each answer of readings and lookups, each kind of record and each sort of
-/// lookup, of search for a closer and of answer about dates come?
+/// Did each class of text, each answer of readings and lookups, each kind of record and each sort
+/// of lookup, with defaults too, of search for a closer and of answer about dates come?
 fn sees_all(texts: &[usize], tally: &Tally) -> bool {
     let lookups = [0, 1, 4, 5, 6, 7, 8, 9, 10].map(|number| tally.lookups[number]);
     let kinds = &tally.kinds[1..];
@@ -70,6 +71,7 @@ fn sees_all(texts: &[usize], tally: &Tally) -> bool {
         &tally.readings,
         &lookups,
         &tally.drawers,
+        &tally.defaults,
         kinds,
         &tally.searches,
         &dates,
@@ -95,13 +97,16 @@ fn summary(count: u64, texts: &[usize], tally: &Tally) -> String {
         .collect();
     let drawers = REASONS.iter().map(|(reason, _)| *reason);
     let drawers = by_name(drawers.zip(tally.drawers));
+    let defaults = SITUATIONS.iter().map(|(situation, _)| *situation);
+    let defaults = by_name(defaults.zip(tally.defaults));
     let searches = MEETINGS.iter().map(|(meeting, _)| *meeting);
     let searches = by_name(searches.zip(tally.searches));
     let dates = tally.dates.seen();
     let dates = dates.map(|(about, seen)| format!("{about}: {}", by_name(seen.into_iter())));
     format!(
         "compare: {count} texts agree ({}); readings by number {}; lookups by number {}; \
-         drawers: {drawers}; records by kind {}; searches for closers: {searches}; {}",
+         drawers: {drawers}; defaults: {defaults}; records by kind {}; \
+         searches for closers: {searches}; {}",
         classes.join(", "),
         by_number(&tally.readings),
         by_number(&tally.lookups),
