@@ -70,6 +70,7 @@ pub fn sourced_numbers(answer: Sourced) -> SourcedValue
     }
 }
 
+// A value with whose it is.
 fn from(whose: u32, value: Value) -> SourcedValue
     ensures { λ r. ⌜ r ≡ fromNumbers whose value ⌝ }
 {
