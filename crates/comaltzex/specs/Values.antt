@@ -12,8 +12,8 @@ abbrev pub valueNumbers : Answer → Value
 valueNumbers a = record { number = number a; start = start a; end = end a; further = further a }
 
 -- and whose answer it is  [02 order 13]
-abbrev pub fromNumbers : ℕ → Value → SourcedValue
-fromNumbers w v = record { number = v .number; whose = w; start = v .start; end = v .end; further = v .further }
+abbrev pub sourcedValue : ℕ → Value → SourcedValue
+sourcedValue w v = record { number = v .number; whose = w; start = v .start; end = v .end; further = v .further }
 
 abbrev pub sourcedNumbers : Sourced → SourcedValue
-sourcedNumbers r = fromNumbers (whose r) (valueNumbers (answer r))
+sourcedNumbers r = sourcedValue (whose r) (valueNumbers (answer r))

@@ -1,5 +1,5 @@
 ghost use mathlib.Core.Path.{_≡_};
-ghost use Rattle.comaltzex.specs.Values.{valueNumbers, fromNumbers, sourcedNumbers};
+ghost use Rattle.comaltzex.specs.Values.{valueNumbers, sourcedValue, sourcedNumbers};
 use lookup::defaults::Sourced;
 use lookup::lookup::Answer;
 use text::number;
@@ -65,14 +65,14 @@ pub fn sourced_numbers(answer: Sourced) -> SourcedValue
     ensures { λ r. ⌜ r ≡ sourcedNumbers answer ⌝ }
 {
     match answer {
-        Sourced::Order(own) => from(ORDER, value_numbers(own)),
-        Sourced::Defaults(own) => from(DEFAULTS, value_numbers(own)),
+        Sourced::Order(own) => sourced_value(ORDER, value_numbers(own)),
+        Sourced::Defaults(own) => sourced_value(DEFAULTS, value_numbers(own)),
     }
 }
 
 // A value with whose it is.
-fn from(whose: u32, value: Value) -> SourcedValue
-    ensures { λ r. ⌜ r ≡ fromNumbers whose value ⌝ }
+fn sourced_value(whose: u32, value: Value) -> SourcedValue
+    ensures { λ r. ⌜ r ≡ sourcedValue whose value ⌝ }
 {
     SourcedValue {
         number: value.number,

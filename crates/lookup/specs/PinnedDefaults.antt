@@ -29,7 +29,7 @@ headingCases =
     ∷ "x\n" heads 2
     ∷ []
 
--- an order, and defaults with a drawer under each of two headings and one before them, which is none
+-- an order, and defaults with a drawer under each of two headings and one before them, which is no heading's
 unfoldable pub order : String
 order = "* A\n:PROPERTIES:\n:VIN: 7\n:FUEL: E85\n:END:\n"
 
