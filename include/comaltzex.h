@@ -31,14 +31,14 @@ extern "C" {
 
 /*
  * The version of this interface. It changes when an answer, the record's width
- * or a function's signature does, and when a function is added. If
- * comaltzex_version() is another number, the library is not the one that this
- * header declares.
+ * or a function's signature does, and when a kind of record or a function is
+ * added. If comaltzex_version() is another number, the library is not the one that
+ * this header declares.
  */
-#define COMALTZEX_VERSION 6
+#define COMALTZEX_VERSION 7
 
 #define COMALTZEX_TEXT_LIMIT 65536 /* the longest text, in bytes */
-#define COMALTZEX_DEPTH_LIMIT 32   /* the deepest drawer or greater block */
+#define COMALTZEX_DEPTH_LIMIT 32   /* the deepest list, drawer or greater block */
 #define COMALTZEX_KEY_LIMIT 64     /* the longest key of a lookup, in bytes */
 #define COMALTZEX_RECORD_SIZE 8    /* numbers in a record */
 
@@ -46,7 +46,8 @@ extern "C" {
 enum comaltzex_number {
     COMALTZEX_OK = 0,
     COMALTZEX_TOO_LONG = 1,     /* the text is over COMALTZEX_TEXT_LIMIT */
-    COMALTZEX_TOO_DEEP = 2,     /* a drawer or greater block at depth 33 or more */
+    COMALTZEX_TOO_DEEP = 2,     /* a list, drawer or greater block at depth 33 or
+                                   more */
     COMALTZEX_NO_ROOM = 3,      /* more records than the table has room for */
     COMALTZEX_NO_HEADING = 4,   /* no heading line starts at that byte */
     COMALTZEX_NO_DRAWER = 5,    /* that heading has no property drawer, and none of
@@ -92,8 +93,33 @@ enum comaltzex_kind {
     COMALTZEX_FIXED_WIDTH = 13,     /* own lines, no blank lines after 0 */
     COMALTZEX_HORIZONTAL_RULE = 14, /* the line's body                 0 */
     COMALTZEX_KEYWORD = 15,         /* the value                       0 */
-    COMALTZEX_PARAGRAPH = 16        /* own lines, no blank lines after 0 */
+    COMALTZEX_PARAGRAPH = 16,       /* own lines, no blank lines after 0 */
+    COMALTZEX_LIST = 17,            /* its items                       1 if the first item has a number
+                                                                       or letter bullet, else 2 */
+    COMALTZEX_ITEM = 18             /* from its text to the end of its 0
+                                       last line that is not blank */
 };
+
+/*
+ * A list's children are its items, and an item's are the elements of its lines. An
+ * item's first line is, after its indentation (bytes 32 and 9),
+ *
+ *   BULLET [@COUNTER] [BOX] TEXT
+ *
+ * of which only the bullet must be there.
+ *
+ *   BULLET      `-`, `+`, a `*` with indentation before it, or a number or one
+ *               letter with `.` or `)`
+ *   [@COUNTER]  the counter set: a number or one letter between `[@` and `]`
+ *   [BOX]       the check box: a blank byte, `X`, `x` or `-` between `[` and `]`
+ *
+ * Each of these three counts only with a blank byte (32, 9 and 13) or the line's
+ * end after it. The item's span starts with its line, its inner span after the
+ * three and the blank bytes after them, with the text. The text is a paragraph
+ * whatever it looks like. So an item's inner span and its first child's span may
+ * start in mid-line. Where no text is left the inner span starts at the line's byte
+ * 10, or is empty at the text's end.
+ */
 
 typedef struct comaltzex_reading {
     uint32_t number; /* 0, 1, 2 or 3 */
@@ -209,7 +235,7 @@ typedef struct comaltzex_days {
  * that holds is the answer:
  *
  *   1  the text is over 65,536 bytes; count is 0
- *   2  a drawer or greater block lies at depth 33 or more; count is 0
+ *   2  a list, drawer or greater block lies at depth 33 or more; count is 0
  *   3  there are more records than room; count is the number needed
  *   0  count records stand at the table's front: the document, then each record
  *      followed at once by all that it holds, in the order of the text
@@ -286,8 +312,9 @@ comaltzex_sourced_part comaltzex_lookup_with_defaults(const uint8_t *order, size
 
 /*
  * Finds the closer of the block or drawer whose opener's line starts at byte
- * `at`, in a container (a section, block or drawer) that ends at byte `end`. The
- * text is seen up to `end` only: a line that goes on past it is cut there.
+ * `at`, in a container that ends at byte `end`: a section, block or drawer, and
+ * for an opener in a list the one around all its lists. The text is seen up to `end`
+ * only: a line that goes on past it is cut there.
  *
  *   opener                                          closer
  *   `#+begin_NAME`, NAME without blank bytes;       `#+end_NAME`

@@ -4,11 +4,13 @@
 use std::time::Duration;
 
 use crate::contest::{self, best, contest, Contender, Effort};
+use crate::lists;
 use crate::texts::{self, Text};
 
 const BOOK_SIZE: usize = 60 * 1024;
 const BOOK_LIMIT: f64 = 4.0;
 const PROSE_LIMIT: f64 = 3.0;
+const LISTS_LIMIT: f64 = 8.0;
 
 const HOSTILE_SIZE: usize = 64 * 1024;
 const HOSTILE_LIMIT: f64 = 0.1; // seconds
@@ -40,8 +42,11 @@ pub fn passes() -> bool {
         ratio_held(&book, BOOK_LIMIT),
         ratio_held(&texts::shipped(), BOOK_LIMIT),
         ratio_held(&prose, PROSE_LIMIT),
+        ratio_held(&lists::book(BOOK_SIZE), LISTS_LIMIT),
     ];
     held.extend(texts::hostile(HOSTILE_SIZE).iter().map(time_held));
+    held.extend(lists::hostile(HOSTILE_SIZE).iter().map(time_held));
+    held.extend(each_held("read", contest::comaltzex, lists::growing));
     held.extend(calls_held());
     held.extend(each_held("look", contest::refused_lookup, texts::refused));
     held.extend(each_held("house", contest::house_default, texts::defaults));
@@ -76,8 +81,7 @@ fn each_held<const N: usize>(
 
 /// Is a reading at most `limit` times as long as the count, in one of the tries?
 fn ratio_held(text: &Text, limit: f64) -> bool {
-    let mut table = contest::fitting_table(&text.bytes);
-    let least = least(limit, || ratio(contest::comaltzex, text, &mut table));
+    let least = least(limit, || ratio(contest::comaltzex, text));
     let held = least <= limit;
     println!(
         "{}: {}, {} bytes: read/count {least:.2}, limit {limit}",
@@ -91,7 +95,7 @@ fn ratio_held(text: &Text, limit: f64) -> bool {
 /// Is a call at most `GROWTH_LIMIT` times as long beside the count in the long text as in the
 /// short one, in one of the tries?
 fn growth_held(column: &str, call: Contender, [short, long]: [Text; 2]) -> bool {
-    let ratio = |text| ratio(call, text, &mut []);
+    let ratio = |text| ratio(call, text);
     let least = least(GROWTH_LIMIT, || ratio(&long) / ratio(&short));
     let held = least <= GROWTH_LIMIT;
     println!(
@@ -132,16 +136,17 @@ fn least(limit: f64, mut measure: impl FnMut() -> f64) -> f64 {
 }
 
 /// How many times as long as the count a contender takes.
-fn ratio(contender: Contender, text: &Text, table: &mut [u32]) -> f64 {
+fn ratio(contender: Contender, text: &Text) -> f64 {
+    let mut table = contest::fitting_table(&text.bytes);
     let contenders = [contender, contest::count_one_at_a_time];
-    let [taken, count] = contest(&text.bytes, table, contenders, &EFFORT);
+    let [taken, count] = contest(&text.bytes, &mut table, contenders, &EFFORT);
     best(&taken) / best(&count)
 }
 
-/// Does a reading take at most `HOSTILE_LIMIT`, in one of the tries?
+/// Does a reading, or its refusal, take at most `HOSTILE_LIMIT`, in one of the tries?
 fn time_held(text: &Text) -> bool {
     let mut table = contest::fitting_table(&text.bytes);
-    let mut read = || contest::comaltzex(&text.bytes, &mut table);
+    let mut read = || contest::any_reading(&text.bytes, &mut table);
     let least = least(HOSTILE_LIMIT, || contest::time(&mut read).as_secs_f64());
     let held = least <= HOSTILE_LIMIT;
     println!(

@@ -11,9 +11,15 @@ use crate::count;
 /// A function to be timed on a text, with a table that fits.
 pub type Contender = fn(&[u8], &mut [u32]);
 
+/// The reading of a text that can be read.
 pub fn comaltzex(text: &[u8], table: &mut [u32]) {
     let records = comaltzex::read(black_box(text), table).expect("the table fits");
     black_box(records);
+}
+
+/// The reading of any text, one that is refused too.
+pub fn any_reading(text: &[u8], table: &mut [u32]) {
+    let _ = black_box(comaltzex::read(black_box(text), table));
 }
 
 /// The closer of the text's first line, up to the text's end.
@@ -144,10 +150,9 @@ pub fn time(call: impl FnOnce()) -> Duration {
     start.elapsed()
 }
 
-/// A table that the text's records just fill.
+/// A table that the text's records just fill; an empty one if it is refused.
 pub fn fitting_table(text: &[u8]) -> Vec<u32> {
-    let table = comaltzex::Table::read(text).expect("the text can be read");
-    table.numbers().to_vec()
+    comaltzex::Table::read(text).map_or(Vec::new(), |table| table.numbers().to_vec())
 }
 
 pub fn median(samples: &[f64]) -> f64 {

@@ -9,6 +9,7 @@
 mod check;
 mod contest;
 mod count;
+mod lists;
 mod report;
 mod texts;
 

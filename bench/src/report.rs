@@ -2,9 +2,10 @@
 
 use std::time::Duration;
 
-use comaltzex::{Kind, RECORD_SIZE};
+use comaltzex::{Kind, Refusal, RECORD_SIZE};
 
 use crate::contest::{self, contest, median, median_ratio, Contender, Effort};
+use crate::lists;
 use crate::texts::{self, Text};
 
 const SIZES: [usize; 3] = [4 * 1024, 16 * 1024, 64 * 1024];
@@ -21,7 +22,7 @@ const EXPLANATION: &str = "\
 Nanoseconds a byte, medians of interleaved samples; a ratio is the median of each
 round's own. The machine is noisy: only ratios within one run count.
 
-  read    comaltzex_read, with a table that fits
+  read    comaltzex_read, with a table that fits; no records: the text is refused
   count   byte 10 counted one byte at a time
   vector  byte 10 counted by vector instructions
   plain   the independent plain reader
@@ -38,6 +39,7 @@ round's own. The machine is noisy: only ratios within one run count.
 pub fn print() {
     println!("{EXPLANATION}");
     print_readings();
+    print_lists();
     print_searches();
     print_refused_lookups();
     print_defaults();
@@ -56,6 +58,7 @@ fn print_readings() {
         for text in texts::ordinary(size) {
             print_row(&text);
         }
+        print_row(&lists::book(size));
         print_row(&texts::planned(size));
     }
     print_row(&texts::shipped());
@@ -64,6 +67,39 @@ fn print_readings() {
             print_row(&text);
         }
     }
+}
+
+/// The readings of lists. The plain reader is asked for the tables of the shortest texts only, and
+/// not timed.
+fn print_lists() {
+    println!(
+        "\n{:<24}{:>7}{:>9}{:>10}{:>8}{:>12}",
+        "lists", "bytes", "records", "read", "count", "read/count"
+    );
+    for (index, size) in SIZES.into_iter().enumerate() {
+        let growing = lists::growing(size).into_iter();
+        for text in growing.chain(lists::hostile(size)) {
+            if index == 0 {
+                agreed_table(&text);
+            }
+            print_list_row(&text);
+        }
+    }
+}
+
+fn print_list_row(text: &Text) {
+    let mut table = contest::fitting_table(&text.bytes);
+    let contenders = [contest::any_reading, contest::count_one_at_a_time];
+    let [read, count] = contest(&text.bytes, &mut table, contenders, &EFFORT);
+    println!(
+        "{:<24}{:>7}{:>9}{:>10.2}{:>8.2}{:>12.2}",
+        text.name,
+        text.bytes.len(),
+        table.len() / RECORD_SIZE,
+        median(&read),
+        median(&count),
+        median_ratio(&read, &count)
+    );
 }
 
 fn print_searches() {
@@ -161,12 +197,14 @@ fn print_call(text: &Text, amount: usize, call: Contender) {
     );
 }
 
-/// The text's table, on which both readers must agree: a wrong reading has no speed.
+/// The text's table, on which both readers must agree: a wrong reading has no speed. Of a text
+/// that is refused it is empty.
 fn agreed_table(text: &Text) -> Vec<u32> {
     let ours = contest::fitting_table(&text.bytes);
+    let number = comaltzex::Table::read(&text.bytes).map_or_else(Refusal::number, |_| 0);
     let mut theirs = vec![0; ours.len()];
     let answer = plain_reader::answer(&text.bytes, &mut theirs);
-    let agreed = answer == (0, ours.len() / RECORD_SIZE) && ours == theirs;
+    let agreed = answer == (number, ours.len() / RECORD_SIZE) && ours == theirs;
     assert!(agreed, "the readers differ on the text `{}`", text.name);
     ours
 }

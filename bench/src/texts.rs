@@ -4,30 +4,30 @@ use comaltzex::Date;
 
 /// A text to read, and what it is like.
 pub struct Text {
-    pub name: &'static str,
+    pub name: String,
     pub bytes: Vec<u8>,
+}
+
+impl Text {
+    pub fn new(name: impl Into<String>, bytes: impl Into<Vec<u8>>) -> Text {
+        Text {
+            name: name.into(),
+            bytes: bytes.into(),
+        }
+    }
 }
 
 /// The texts that people write.
 pub fn ordinary(size: usize) -> [Text; 2] {
     [
-        Text {
-            name: "order book",
-            bytes: book(size),
-        },
-        Text {
-            name: "prose",
-            bytes: prose(size),
-        },
+        Text::new("order book", book(size)),
+        Text::new("prose", prose(size)),
     ]
 }
 
 /// A single small order, as a host reads it that takes a book apart.
 pub fn one_order() -> Text {
-    Text {
-        name: "one order",
-        bytes: b"* A\n:PROPERTIES:\n:VIN: 7\n:END:\n\nhi\n".to_vec(),
-    }
+    Text::new("one order", "* A\n:PROPERTIES:\n:VIN: 7\n:END:\n\nhi\n")
 }
 
 /// Small orders, each with a planning line of three parts.
@@ -36,19 +36,14 @@ pub fn planned(size: usize) -> Text {
         "* A\n{}\n:PROPERTIES:\n:VIN: 7\n:END:\n\n",
         PLANNING.join(" ")
     );
-    Text {
-        name: "planned orders",
-        bytes: order.repeat(size / order.len()).into_bytes(),
-    }
+    Text::new("planned orders", order.repeat(size / order.len()))
 }
 
 /// The order book that ships with the program. Its lines are shorter and more mixed than
 /// those of the made one: many keywords, blocks and stars in the text.
 pub fn shipped() -> Text {
-    Text {
-        name: "shipped book",
-        bytes: include_bytes!("../../tests/books/orders.org").to_vec(),
-    }
+    let book = include_bytes!("../../tests/books/orders.org");
+    Text::new("shipped book", *book)
 }
 
 /// Texts made to be slow: many openers that nothing closes, so that a search for the
@@ -79,15 +74,12 @@ pub fn hostile(size: usize) -> [Text; 14] {
         ),
         ("an end last", ended(again(":x\n"), ":END:\n")),
     ]
-    .map(|(name, bytes)| Text { name, bytes })
+    .map(|(name, bytes)| Text::new(name, bytes))
 }
 
 /// A block opener and closers of another name only, each of which a search compares.
 pub fn one_opener(size: usize) -> Text {
-    Text {
-        name: "one opener",
-        bytes: filled("#+begin_a\n", "#+end_b\n", size),
-    }
+    Text::new("one opener", filled("#+begin_a\n", "#+end_b\n", size))
 }
 
 /// Headings whose lookups are refused after a look at all that follows: `:PROPERTIES:` below
@@ -100,7 +92,7 @@ pub fn refused(size: usize) -> [Text; 3] {
         ("never closed", drawer()),
         ("bad line last", ended(drawer(), "x\n:END:\n")),
     ]
-    .map(|(name, bytes)| Text { name, bytes })
+    .map(|(name, bytes)| Text::new(name, bytes))
 }
 
 /// Defaults of which all is looked at for a FUEL: it is the last of many properties, or its
@@ -112,26 +104,20 @@ pub fn defaults(size: usize) -> [Text; 2] {
         ("default last", ended(drawer, ":FUEL: 98\n:END:\n")),
         ("heading last", ended(prose(size), heading)),
     ]
-    .map(|(name, bytes)| Text { name, bytes })
+    .map(|(name, bytes)| Text::new(name, bytes))
 }
 
 /// A timestamp with all its parts, and as many blanks between them as fit the size.
 pub fn spaced_stamp(size: usize) -> Text {
     let parts = ["<2026-11-16", "Mon", "09:30-10:00", "+1w/2w", "-3d>"];
     let blanks = (size - parts.concat().len()) / (parts.len() - 1);
-    Text {
-        name: "spaced stamp",
-        bytes: parts.join(&" ".repeat(blanks)).into_bytes(),
-    }
+    Text::new("spaced stamp", parts.join(&" ".repeat(blanks)))
 }
 
 /// A heading whose planning line has so many parts.
 pub fn planning_line(parts: usize) -> Text {
     let parts: Vec<&str> = PLANNING.into_iter().cycle().take(parts).collect();
-    Text {
-        name: "planning line",
-        bytes: format!("* A\n{}\n", parts.join(" ")).into_bytes(),
-    }
+    Text::new("planning line", format!("* A\n{}\n", parts.join(" ")))
 }
 
 const PLANNING: [&str; 3] = [
@@ -151,19 +137,19 @@ const fn year(year: u32) -> [Date; 2] {
 }
 
 /// The first lines, then the others again and again, cut to size.
-fn filled(first: &str, again: &str, size: usize) -> Vec<u8> {
+pub fn filled(first: &str, again: &str, size: usize) -> Vec<u8> {
     let bytes = first.bytes().chain(again.bytes().cycle());
     bytes.take(size).collect()
 }
 
 /// The lines again and again with another number for each `%`, cut to size.
-fn numbered(lines: &str, size: usize) -> Vec<u8> {
+pub fn numbered(lines: &str, size: usize) -> Vec<u8> {
     let numbered = |number| lines.replace('%', &format!("{number:04}")).into_bytes();
     (0..).flat_map(numbered).take(size).collect()
 }
 
 /// Whole lines of the text and that last line, as long as they fit its length.
-fn ended(mut text: Vec<u8>, last: &str) -> Vec<u8> {
+pub fn ended(mut text: Vec<u8>, last: &str) -> Vec<u8> {
     text.truncate(text.len() - last.len());
     while text.pop_if(|byte| *byte != b'\n').is_some() {}
     text.extend(last.bytes());
@@ -224,7 +210,7 @@ fn order(number: usize, dice: &mut Dice) -> String {
     order
 }
 
-fn drawer(number: usize, dice: &mut Dice) -> String {
+pub fn drawer(number: usize, dice: &mut Dice) -> String {
     let (vin, fuel, boost) = (dice.below(1_000_000), 95 + dice.below(8), 8 + dice.below(9));
     format!(
         ":PROPERTIES:\n:VIN:      WBAPM5C51BA{vin:06}\n:REQUEST:  R-{number:06}\n\
@@ -254,7 +240,7 @@ fn log(dice: &mut Dice) -> String {
 }
 
 /// Lines of some seventy bytes.
-fn wrapped(lines: usize, dice: &mut Dice) -> String {
+pub fn wrapped(lines: usize, dice: &mut Dice) -> String {
     let mut text = String::new();
     for _ in 0..lines {
         let end = text.len() + 64;
@@ -269,10 +255,10 @@ fn wrapped(lines: usize, dice: &mut Dice) -> String {
 }
 
 /// Chance that is the same in every run.
-struct Dice(u64);
+pub struct Dice(pub u64);
 
 impl Dice {
-    fn below(&mut self, bound: usize) -> usize {
+    pub fn below(&mut self, bound: usize) -> usize {
         self.0 = self
             .0
             .wrapping_mul(6_364_136_223_846_793_005)
@@ -280,12 +266,12 @@ impl Dice {
         (self.0 >> 33) as usize % bound
     }
 
-    fn pick(&mut self, words: &[&'static str]) -> &'static str {
+    pub fn pick(&mut self, words: &[&'static str]) -> &'static str {
         words[self.below(words.len())]
     }
 }
 
-const CARS: [&str; 5] = [
+pub const CARS: [&str; 5] = [
     "2011 BMW 335i, stage 2",
     "2009 VW Golf GTI, stage 1",
     "2015 Ford Focus ST, flex fuel",
@@ -293,7 +279,7 @@ const CARS: [&str; 5] = [
     "2007 Subaru Impreza, base map",
 ];
 
-const PARTS: [&str; 6] = [
+pub const PARTS: [&str; 6] = [
     "downpipe",
     "injectors",
     "intercooler",

@@ -11,8 +11,8 @@ here=$(cd "$(dirname "$0")" && pwd)
 build=$(mktemp -d)
 trap 'rm -rf "$build"' EXIT
 
-for program in sample dates drawers defaults; do
-    "${CC:-cc}" -std=c99 -Wall -Wextra -pedantic -Werror \
+for program in sample dates drawers defaults lists stack; do
+    "${CC:-cc}" -std=c99 -Wall -Wextra -pedantic -Werror -pthread \
         -I "$here/../../include" -o "$build/$program" "$here/$program.c" "$library"
     "$build/$program"
 done

@@ -5,11 +5,10 @@
 #include "check.h"
 #include "comaltzex.h"
 #include "lookup.h"
+#include "read.h"
 
 #include <stdio.h>
 #include <string.h>
-
-#define UNTOUCHED 0xABCDEF01u
 
 static const char FIRST[] = "* A\n:PROPERTIES:\n:VIN: 7\n:END:\n\nhi\n";
 static const char SECOND[] = "* A\n\n:PROPERTIES:\n:VIN: 7\n:END:\n";
@@ -24,45 +23,7 @@ static const uint32_t FIRST_TABLE[] = {
     16, 32, 35, 32, 35, 2, 0, 5  /* paragraph */
 };
 
-static uint32_t table[COMALTZEX_RECORD_SIZE * 128];
 static char book[COMALTZEX_TEXT_LIMIT + 1];
-
-static void clear_table(void)
-{
-    size_t i;
-    for (i = 0; i < LENGTH(table); i++)
-        table[i] = UNTOUCHED;
-}
-
-static void check_untouched(const char *what, size_t from)
-{
-    size_t i;
-    for (i = from; i < LENGTH(table); i++)
-        if (table[i] != UNTOUCHED)
-            break;
-    check(what, i, LENGTH(table));
-}
-
-/* Reads into a table of table_len numbers and checks the answer. */
-static void check_read(const char *what, const char *text, size_t text_len,
-                       size_t table_len, uint32_t number, size_t count)
-{
-    comaltzex_reading answer;
-    clear_table();
-    answer = comaltzex_read((const uint8_t *)text, text_len, table, table_len);
-    check(what, answer.number, number);
-    check(what, answer.count, count);
-    check_untouched(what, number == COMALTZEX_OK ? count * COMALTZEX_RECORD_SIZE : 0);
-}
-
-/* Checks one field of the table's first records. */
-static void check_field(const char *what, enum comaltzex_field field,
-                        const uint32_t *wanted, size_t count)
-{
-    size_t i;
-    for (i = 0; i < count; i++)
-        check(what, table[i * COMALTZEX_RECORD_SIZE + field], wanted[i]);
-}
 
 static void check_closer(const char *what, const char *text, size_t text_len, size_t at,
                          size_t end, comaltzex_closer wanted)
@@ -105,10 +66,8 @@ static void number_names(void)
 static void first_sample(void)
 {
     const size_t fitting = LENGTH(FIRST_TABLE);
-    size_t i;
     check_read("first sample", FIRST, 35, LENGTH(table), COMALTZEX_OK, 6);
-    for (i = 0; i < fitting; i++)
-        check("first sample's table", table[i], FIRST_TABLE[i]);
+    check_table("first sample's table", FIRST_TABLE, fitting);
     check_read("first sample, exact room", FIRST, 35, fitting, COMALTZEX_OK, 6);
     check_read("first sample, room 5", FIRST, 35, fitting - COMALTZEX_RECORD_SIZE,
                COMALTZEX_NO_ROOM, 6);
@@ -155,10 +114,8 @@ static void planning_lines(void)
 static void empty_text(void)
 {
     static const uint32_t document[] = {1, 0, 0, 0, 0, 0, 0, 0};
-    size_t i;
     check_read("empty text", "", 0, COMALTZEX_RECORD_SIZE, COMALTZEX_OK, 1);
-    for (i = 0; i < LENGTH(document); i++)
-        check("empty text's table", table[i], document[i]);
+    check_table("empty text's table", document, LENGTH(document));
     check_read("empty text, a number less", "", 0, COMALTZEX_RECORD_SIZE - 1, COMALTZEX_NO_ROOM, 1);
     check_lookup("empty text", "", 0, 0, "VIN", refused(COMALTZEX_NO_HEADING));
 }

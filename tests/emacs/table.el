@@ -3,9 +3,9 @@
 ;; Usage: emacs --batch -Q -l table.el --eval '(table-print "FILE")'
 ;; Prints a line of eight numbers for each element of FILE: kind, start, end, inner start, inner end, parent's
 ;; index, detail, line number. Spans are what org-element says, counted in bytes from 0, and line numbers what Emacs
-;; says, counted from 0 too. An element of a kind that document 01 does not have is printed with kind 0. In one thing the
-;; table is document 01's and not org-element's: blank lines at the end of a section or heading are also those of the
-;; last in it.
+;; says, counted from 0 too. An element of a kind that documents 01 and 02 do not have is printed with kind 0. In one
+;; thing the table is document 01's and not org-element's: blank lines at the end of a section or heading are also those
+;; of the last in it.
 
 (require 'org)
 (require 'org-element)
@@ -14,8 +14,9 @@
   '((org-data 1 0) (headline 2 0) (section 3 0) (planning 4 0) (property-drawer 5 0) (node-property 6 0) (drawer 7 0)
     (quote-block 8 1) (center-block 8 2) (special-block 8 3)
     (comment-block 9 1) (example-block 9 2) (export-block 9 3) (src-block 9 4) (verse-block 9 5)
-    (table 10 0) (table-row 11 0) (comment 12 0) (fixed-width 13 0) (horizontal-rule 14 0) (keyword 15 0) (paragraph 16 0))
-  "Kind and detail of each type of element; a headline's and a row's detail are told by the element.")
+    (table 10 0) (table-row 11 0) (comment 12 0) (fixed-width 13 0) (horizontal-rule 14 0) (keyword 15 0) (paragraph 16 0)
+    (plain-list 17 2) (item 18 0))
+  "Kind and detail of each type of element; a headline's, a row's and a list's detail are told by the element.")
 
 (defun table-own-end (element)
   "Where ELEMENT ends without the blank lines after it."
@@ -47,6 +48,16 @@
       (skip-chars-forward " \t\r" to)
       (cons (min (point) to) to))))
 
+(defun table-item-inner (item)
+  "What ITEM holds: from after its bullet, counter set, check box and the blanks after them to its last line's end."
+  (save-excursion
+    (goto-char (org-element-property :begin item))
+    (looking-at org-list-full-item-re)
+    ;; The counter's group is without its bracket.
+    (goto-char (cond ((match-end 3)) ((match-end 2) (1+ (match-end 2))) (t (match-end 1))))
+    (skip-chars-forward " \t\r")
+    (cons (point) (table-own-end item))))
+
 (defun table-between (element)
   "The lines of ELEMENT between its first and its last."
   (save-excursion
@@ -68,6 +79,8 @@
            'comment-block 'example-block 'export-block 'src-block 'verse-block)
        (table-between element))
       ('table (cons begin (or (org-element-property :contents-end element) end)))
+      ('plain-list (cons begin (org-element-property :contents-end element)))
+      ('item (table-item-inner element))
       (_ (cons begin (table-own-end element))))))
 
 (defun table-end (element)
@@ -88,6 +101,7 @@
          (detail (pcase type
                    ('headline (org-element-property :level element))
                    ('table-row (if (eq (org-element-property :type element) 'rule) 1 0))
+                   ('plain-list (if (eq (org-element-property :type element) 'ordered) 1 2))
                    (_ (nth 1 known)))))
     (list (nth 0 known)
           (1- begin) (1- (table-end element))
@@ -106,7 +120,7 @@
   (with-temp-buffer
     (insert-file-contents-literally file)
     (set-buffer-multibyte nil)
-    (let ((org-inhibit-startup t) (org-todo-keywords nil) (tab-width 8))
+    (let ((org-inhibit-startup t) (org-todo-keywords nil) (org-list-allow-alphabetical t) (tab-width 8))
       (org-mode)
       (dolist (row (nreverse (table-rows (org-element-parse-buffer 'element) 0 0)))
         (princ (concat (mapconcat #'number-to-string row " ") "\n"))))))

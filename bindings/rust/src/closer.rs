@@ -14,8 +14,8 @@ pub struct CloserSearch {
 }
 
 /// Finds the closer of the block or drawer whose opener's line starts at byte
-/// `at`, in a container (a section, block or drawer) that ends at byte `end`. The
-/// text may be of any length.
+/// `at`, in a container that ends at byte `end`: a section, block or drawer, and for an
+/// opener in a list the one around all its lists. The text may be of any length.
 ///
 /// `#+begin_NAME`, with or without parameters, is closed by `#+end_NAME`, and the
 /// drawer opener `:NAME:` (`:PROPERTIES:` too) by `:END:`; ASCII letters match in

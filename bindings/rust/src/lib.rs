@@ -36,7 +36,8 @@
 //! lacks from the house defaults, a text of their own. [`planning`] gives the dates
 //! of one heading's planning line, [`timestamp`] reads one timestamp, and
 //! [`days_between`] counts the days from one date to another. [`find_closer`] finds
-//! the line that closes one block or drawer. A call needs up to 96 KB of stack.
+//! the line that closes one block or drawer. [`Record::item`] tells an item's check box.
+//! A call needs up to 96 KB of stack.
 
 #![deny(unsafe_code, unsafe_op_in_unsafe_fn, missing_docs)]
 
@@ -45,6 +46,7 @@ mod dates;
 mod defaults;
 #[allow(unsafe_code)]
 mod ffi;
+mod item;
 mod lines;
 mod lookup;
 mod mend;
@@ -58,6 +60,7 @@ mod timestamp;
 pub use closer::{find_closer, CloserSearch};
 pub use dates::{days_between, Date};
 pub use defaults::{lookup_with_defaults, property_or_default, Sourced, Whose};
+pub use item::{CheckBox, Item};
 pub use lookup::{lookup, property};
 pub use planning::{planning, Planning};
 pub use record::{Kind, Record, Records};
@@ -68,7 +71,7 @@ pub use timestamp::{timestamp, FoundTimestamp, Moment, Time, Timestamp};
 
 /// The longest text that is read, in bytes.
 pub const TEXT_LIMIT: usize = 65_536;
-/// The greatest depth of drawers and greater blocks that is read.
+/// The greatest depth of lists, drawers and greater blocks that is read.
 pub const DEPTH_LIMIT: usize = 32;
 /// The longest key of a lookup, in bytes.
 pub const KEY_LIMIT: usize = 64;

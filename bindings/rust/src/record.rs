@@ -52,12 +52,20 @@ pub enum Kind {
     HorizontalRule = 14,
     /// A keyword line. Inner: the value.
     Keyword = 15,
-    /// A paragraph. Inner: the lines without the blank lines after them.
+    /// A paragraph. Inner: the lines without the blank lines after them. On an item's
+    /// first line it starts in mid-line.
     Paragraph = 16,
+    /// A list. Inner: its items. Detail: 1 if the first item has a number or letter
+    /// bullet, else 2.
+    List = 17,
+    /// An item of a list. Inner: from its text, which may start in mid-line, to the end
+    /// of its last line that is not blank. What stands before the text, the check box
+    /// too, is told by [`Record::item`].
+    Item = 18,
 }
 
 /// Every kind; the one with number `n` stands at index `n - 1`.
-const KINDS: [Kind; 16] = [
+const KINDS: [Kind; 18] = [
     Kind::Document,
     Kind::Heading,
     Kind::Section,
@@ -74,6 +82,8 @@ const KINDS: [Kind; 16] = [
     Kind::HorizontalRule,
     Kind::Keyword,
     Kind::Paragraph,
+    Kind::List,
+    Kind::Item,
 ];
 
 impl Kind {
@@ -108,6 +118,8 @@ impl Display for Kind {
             Kind::HorizontalRule => "horizontal rule",
             Kind::Keyword => "keyword",
             Kind::Paragraph => "paragraph",
+            Kind::List => "list",
+            Kind::Item => "item",
         })
     }
 }
@@ -212,7 +224,7 @@ mod tests {
 
     #[test]
     fn each_kind_has_its_number() {
-        for number in 1..=16 {
+        for number in 1..=18 {
             assert_eq!(Kind::from_number(number).map(Kind::number), Some(number));
         }
     }
@@ -234,7 +246,7 @@ mod tests {
     #[test]
     fn other_numbers_are_no_kinds() {
         assert_eq!(Kind::from_number(0), None);
-        assert_eq!(Kind::from_number(17), None);
+        assert_eq!(Kind::from_number(19), None);
         assert_eq!(Kind::from_number(u32::MAX), None);
     }
 }

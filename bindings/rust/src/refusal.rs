@@ -12,7 +12,7 @@ const NO_HEADING: &str = "no heading starts at this byte";
 pub enum Refusal {
     /// The text is longer than [`TEXT_LIMIT`](crate::TEXT_LIMIT).
     TooLong,
-    /// A drawer or greater block lies deeper than
+    /// A list, drawer or greater block lies deeper than
     /// [`DEPTH_LIMIT`](crate::DEPTH_LIMIT).
     TooDeep,
     /// The reading has more records than the table has room for.
@@ -37,7 +37,7 @@ impl Display for Refusal {
     fn fmt(&self, f: &mut Formatter<'_>) -> fmt::Result {
         match self {
             Refusal::TooLong => f.write_str(TOO_LONG),
-            Refusal::TooDeep => f.write_str("drawers or blocks lie more than 32 deep"),
+            Refusal::TooDeep => f.write_str("lists, drawers or blocks lie more than 32 deep"),
             Refusal::NoRoom { needed } => {
                 write!(f, "the table has no room for {needed} records")
             }

@@ -243,7 +243,7 @@ fn a_refused_book_is_status_2() {
     let mut list = orders("refused", &books);
     list.args(["long.org", "deep.org"]);
     let errors = "orders: long.org: the text is longer than 65,536 bytes\n\
-        orders: deep.org: drawers or blocks lie more than 32 deep\n";
+        orders: deep.org: lists, drawers or blocks lie more than 32 deep\n";
     check(list.output().unwrap(), 2, "", errors);
 }
 

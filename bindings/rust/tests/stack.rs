@@ -34,6 +34,18 @@ fn nested(depth: usize) -> Vec<u8> {
         .into_bytes()
 }
 
+/// Lists in one another, or by turns a list and a block in its item.
+fn nested_lists(depth: usize, with_blocks: bool) -> Vec<u8> {
+    let is_block = |level: &usize| with_blocks && level % 2 == 1;
+    let openers = (0..depth).map(|level| match is_block(&level) {
+        true => format!("{}#+begin_{level}\n", " ".repeat(level)),
+        false => format!("{}- a\n", " ".repeat(level)),
+    });
+    let closers = (0..depth).rev().filter(is_block);
+    let closers = closers.map(|level| format!("#+end_{level}\n"));
+    openers.chain(closers).collect::<String>().into_bytes()
+}
+
 fn filled(line: &str) -> Vec<u8> {
     line.bytes().cycle().take(TEXT_LIMIT).collect()
 }
@@ -49,6 +61,29 @@ fn deep_texts() {
         Err(Refusal::TooDeep)
     );
     assert_eq!(read_on_a_small_stack(nested(2500)), Err(Refusal::TooDeep));
+}
+
+#[test]
+fn deep_lists() {
+    for (with_blocks, count) in [(false, 2 + 3 * 32), (true, 2 + 3 * 16 + 16)] {
+        let read = |depth| read_on_a_small_stack(nested_lists(depth, with_blocks));
+        assert_eq!(read(DEPTH_LIMIT), Ok(count));
+        assert_eq!(read(DEPTH_LIMIT + 1), Err(Refusal::TooDeep));
+        assert_eq!(read(300), Err(Refusal::TooDeep));
+    }
+}
+
+/// The store of the reading call is full before the deepest lists come.
+#[test]
+fn deep_lists_after_many_records() {
+    for (with_blocks, count) in [(false, 3 * 32), (true, 3 * 16 + 16)] {
+        let mut text = b"* a\n:properties:\n:a: b\n:end:\n".repeat(1000);
+        text.extend(nested_lists(DEPTH_LIMIT, with_blocks));
+        assert_eq!(read_on_a_small_stack(text.clone()), Ok(1 + 4000 + count));
+        text.extend(b"* a\n");
+        text.extend(nested_lists(DEPTH_LIMIT + 1, with_blocks));
+        assert_eq!(read_on_a_small_stack(text), Err(Refusal::TooDeep));
+    }
 }
 
 /// The store of the reading call is full before the deepest nesting comes.
@@ -72,6 +107,9 @@ fn long_texts() {
     assert_eq!(read_on_a_small_stack(filled("#+begin_x\n")), Ok(3));
     assert_eq!(read_on_a_small_stack(filled(":a:\n")), Ok(3));
     assert_eq!(read_on_a_small_stack(filled("|\n")), Ok(32768 + 3));
+    assert_eq!(read_on_a_small_stack(filled("-\n")), Ok(32768 + 3));
+    // with two blank lines between them: lists and items
+    assert_eq!(read_on_a_small_stack(filled("-\n\n\n")), Ok(2 * 16384 + 2));
 }
 
 #[test]

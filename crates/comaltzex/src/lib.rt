@@ -33,7 +33,7 @@ use table::record;
 use text::number;
 
 // The version of this interface, as specs/Numbers has it.
-const VERSION: u32 = 6;
+const VERSION: u32 = 7;
 
 // Both ends of a line that was not found.
 const NOWHERE: usize = 0;

@@ -9,14 +9,14 @@ use crate::kept::read_on;
 use table::record;
 use text::limit;
 
-// A text of at most so many bytes is small: its store, which each call clears, has room for 256 records, and that of any other for 1,650.
+// A text of at most so many bytes is small: its store, which each call clears, has room for 256 records, and that of any other for 1,900.
 const SMALL_TEXT: usize = 4096;
 
 const SMALL_STORE: usize = 2048;
 
-const STORE: usize = 13200;
+const STORE: usize = 15200;
 
-// Reads a text into a lent table, eight numbers a record. Tries in turn: the text is over 65,536 bytes; a drawer or greater block lies at
+// Reads a text into a lent table, eight numbers a record. Tries in turn: the text is over 65,536 bytes; a drawer, greater block or list lies at
 // depth 33 or more; the table has too little room. A refusal leaves the table as it was: all is counted before anything is written.
 pub fn read(text: &[u8], table: &mut [u32]) -> Answer
     ensures { λ r. ⌜ Settled (now (text .entry)) (now (table .entry)) r (now (table .exit)) ⌝ }

@@ -9,13 +9,14 @@ ghost use Rattle.rules.specs.Known.{anyName};
 ghost use Rattle.rules.specs.Findings.{LineOf};
 ghost use Rattle.table.specs.Makers.{childRecord};
 ghost use Rattle.table.specs.Nesting.{depthIn};
-ghost use Rattle.reading.specs.Walk.{Takes, entriesFrom, elementsTo, linesTo, sectionOf, sectionEntries, far};
-ghost use Rattle.reading.specs.Walk.{scopeOf, innerLine, NumberOf, RangeIn, ElementIn, StepAt, SectionAt, recordOf, withHeld};
+ghost use Rattle.reading.specs.Walk.{Takes, entriesFrom, runTo, linesTo, sectionOf, sectionEntries, far, slack, slackOf};
+ghost use Rattle.reading.specs.Walk.{scopeOf, innerPlace, innerLine, NumberOf, RangeIn, ElementIn, StepAt, SectionAt, recordOf, withHeld};
 use crate::sink::Sink;
 use crate::sink::emit;
 use rules::element::element_at;
 use rules::kind;
 use rules::known::ANY_NAME;
+use rules::list_element::item_at;
 use rules::place::Place;
 use rules::place::first_place;
 use rules::place::next_place;
@@ -115,7 +116,7 @@ fn depth_in(depth: usize, kind: usize) -> usize
     requires { ⌜ depth ≤ depthLimit ⌝ }
     ensures { λ r. ⌜ r ≡ depthIn depth kind ⌝ }
 {
-    if kind == kind::DRAWER || kind == kind::GREATER_BLOCK {
+    if kind == kind::DRAWER || kind == kind::GREATER_BLOCK || kind == kind::LIST {
         depth + 1
     } else {
         depth
@@ -132,19 +133,20 @@ pub struct Step {
     pub names: u64,
 }
 
-// The element at a line of a range, and how to go on after it. The scope is taken apart here and in `read_elements`: as a struct it would cost
-// every level of nesting some 50 bytes of stack.
+// The element at a line of a range, or the item of a list's, and how to go on after it. The scope is taken apart here and in `read_elements`: as a
+// struct it would cost every level of nesting some 50 bytes of stack.
 fn next_element(
     text: &[u8],
     at: usize,
     to: usize,
+    items: bool,
     place: Place,
     ends: bool,
     names: u64,
     number: usize,
 ) -> Step
-    requires { ⌜ RangeIn (now text) at (scopeOf to place ends names) × (at < to) × (number ≡ lineNumber (now text) at) ⌝ }
-    ensures { λ r. ⌜ StepAt (now (text .entry)) at to r ⌝ }
+    requires { ⌜ RangeIn (now text) at items (scopeOf to place ends names) × (at < to) × (number ≡ lineNumber (now text) at) ⌝ }
+    ensures { λ r. ⌜ StepAt (now (text .entry)) at to items r ⌝ }
 {
     let scope = Scope {
         end: to,
@@ -153,7 +155,11 @@ fn next_element(
         names: names,
     };
     let line = line_at(text, at, to);
-    let parsed = element_at(text, line, scope);
+    let parsed = if items {
+        item_at(text, line, scope)
+    } else {
+        element_at(text, line, scope)
+    };
     let e = parsed.element;
     let next = first_line(text, e.end, to);
     Step {
@@ -172,12 +178,13 @@ pub struct Reached {
     pub line: usize,
 }
 
-// The elements of a range, with all that they hold. Each is found by a call of its own, so that this function, which calls itself by way of
-// `read_element`, keeps little on the stack.
+// The elements of a range, or the items of a list's, with all that they hold. Each is found by a call of its own, so that this function, which
+// calls itself by way of `read_element`, keeps little on the stack.
 fn read_elements(
     text: &[u8],
     from: usize,
     to: usize,
+    items: bool,
     place: Place,
     number: usize,
     depth: usize,
@@ -185,9 +192,9 @@ fn read_elements(
     table: &mut [u32],
     sink: Sink,
 ) -> Reached
-    requires { ⌜ RangeIn (now text) from (scopeOf to place true anyName) × (depth ≤ depthLimit) × (parent ≤ far) × (sink .count ≤ 2 * from + 2) × (from < to → number ≡ lineNumber (now text) from) ⌝ }
-    ensures { λ r. ⌜ Takes (now (table .entry)) sink (entriesFrom (now (text .entry)) (elementsTo to) parent depth from (sink .count)) (now (table .exit)) (r .sink) ⌝ }
-    ensures { λ r. ⌜ (r .sink .count + 2 * from ≤ sink .count + 2 * to) × (from < to → NumberOf (now (text .entry)) to (r .line)) ⌝ }
+    requires { ⌜ RangeIn (now text) from items (scopeOf to place true anyName) × (depth ≤ depthLimit) × (parent ≤ far) × (sink .count ≤ 2 * from + 2 + slack items) × (from < to → number ≡ lineNumber (now text) from) ⌝ }
+    ensures { λ r. ⌜ Takes (now (table .entry)) sink (entriesFrom (now (text .entry)) (runTo items to) parent depth from (sink .count)) (now (table .exit)) (r .sink) ⌝ }
+    ensures { λ r. ⌜ (r .sink .count + 2 * from ≤ sink .count + 2 * to) × (from < to → (r .sink .count + 2 * from + slack items ≤ sink .count + 2 * to) × NumberOf (now (text .entry)) to (r .line)) ⌝ }
 {
     if to <= from {
         return Reached {
@@ -198,7 +205,7 @@ fn read_elements(
     let mut at = from;
     let mut n = number;
     let mut out = sink;
-    let mut step = next_element(text, from, to, place, true, ANY_NAME, n);
+    let mut step = next_element(text, from, to, items, place, true, ANY_NAME, n);
     loop {
         out = read_element(text, at, step.end, step.e, n, depth, parent, table, out);
         n = step.line;
@@ -207,20 +214,31 @@ fn read_elements(
         }
         at = step.end;
         let here = step.place;
-        step = next_element(text, at, to, here, step.ends, step.names, n);
+        step = next_element(text, at, to, items, here, step.ends, step.names, n);
     }
 }
 
-// The line number of what stands first in an element at a line, after so many blank lines: a table's rows start with it, all else after its
-// first line.
-fn inner_line(number: usize, rows: bool, lines: usize) -> usize
+// The line number of what stands first in an element at a line, after so many blank lines: the rows of a table, the items of a list and what is left
+// on an item's line start with it, all else after its first line.
+fn inner_line(number: usize, kind: usize, lines: usize) -> usize
     requires { ⌜ (number ≤ far) × (lines ≤ far) ⌝ }
-    ensures { λ r. ⌜ r ≡ innerLine rows number lines ⌝ }
+    ensures { λ r. ⌜ r ≡ innerLine kind number lines ⌝ }
 {
-    if rows {
+    if kind == kind::TABLE || kind == kind::LIST || kind == kind::ITEM {
         return number + lines;
     }
     number + 1 + lines
+}
+
+// The place of what stands first in an element, where its inner span starts or after blank lines: what is left on an item's line is inside it.
+fn inner_place(kind: usize, tight: bool) -> Place
+    ensures { λ r. ⌜ r ≡ innerPlace kind tight ⌝ }
+{
+    if kind == kind::ITEM && tight {
+        Place::InLine
+    } else {
+        Place::Elsewhere
+    }
 }
 
 // One element from `at` to `end`, with all that it holds.
@@ -235,9 +253,9 @@ fn read_element(
     table: &mut [u32],
     sink: Sink,
 ) -> Sink
-    requires { ⌜ ElementIn (now text) at end e × (depth ≤ depthLimit) × (parent ≤ far) × (sink .count ≤ 2 * at + 2) × (number ≡ lineNumber (now text) at) ⌝ }
+    requires { ⌜ ElementIn (now text) at end e × (depth ≤ depthLimit) × (parent ≤ far) × (sink .count ≤ 2 * at + 2 + slackOf (e .kind)) × (number ≡ lineNumber (now text) at) ⌝ }
     ensures { λ r. ⌜ Takes (now (table .entry)) sink (withHeld (now (text .entry)) (recordOf (now (text .entry)) at end e parent) (sink .count) depth) (now (table .exit)) r ⌝ }
-    ensures { λ r. ⌜ r .count + 2 * at ≤ sink .count + 2 * end ⌝ }
+    ensures { λ r. ⌜ r .count + 2 * at + slackOf (e .kind) ≤ sink .count + 2 * end ⌝ }
 {
     let index = sink.count;
     let kind = e.kind;
@@ -259,7 +277,7 @@ fn read_element(
     let rows = kind == kind::TABLE;
     if rows || kind == kind::PROPERTY_DRAWER {
         let first = first_line(text, e.from, e.to);
-        let n = inner_line(number, rows, first.lines);
+        let n = inner_line(number, kind, first.lines);
         return read_lines(
             text,
             first.at,
@@ -273,16 +291,18 @@ fn read_element(
             out,
         );
     }
-    if inner <= depth {
+    if inner <= depth && kind != kind::ITEM {
         return out;
     }
     let first = first_line(text, e.from, e.to);
-    let n = inner_line(number, false, first.lines);
+    let n = inner_line(number, kind, first.lines);
+    let place = inner_place(kind, first.at == e.from);
     read_elements(
         text,
         first.at,
         e.to,
-        Place::Elsewhere,
+        kind == kind::LIST,
+        place,
         n,
         inner,
         index,
@@ -328,5 +348,5 @@ pub fn read_section(
         line: n,
     };
     let out = emit(table, sink, r, 0);
-    read_elements(text, at, to, here, n, 0, index, table, out)
+    read_elements(text, at, to, false, here, n, 0, index, table, out)
 }

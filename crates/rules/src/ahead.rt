@@ -8,6 +8,8 @@ use crate::closer::find_end;
 use crate::drawer::is_drawer_line;
 use crate::known::closing_names;
 use crate::known::has_name;
+use crate::lines::LineRun;
+use crate::rule::Element;
 use crate::scope::Scope;
 use text::line::LineSpan;
 use text::marks::word_end;
@@ -15,6 +17,20 @@ use text::word::begins_with;
 
 // All of the 63 names: they tell nothing, and are not collected again.
 const ALL_NAMES: u64 = 9223372036854775807;
+
+// A run of lines, and what is known of those after them.
+pub struct Further {
+    pub run: LineRun,
+    pub ends: bool,
+    pub names: u64,
+}
+
+// An element, and what is known of the lines after its own.
+pub struct Parsed {
+    pub element: Element,
+    pub ends: bool,
+    pub names: u64,
+}
 
 // Whether an `:END:` line may still follow a line that starts no element: asked only at a line that could have opened a drawer.
 pub fn ends_after(text: &[u8], line: LineSpan, scope: Scope) -> bool

@@ -24,6 +24,7 @@ fn allows_properties(place: Place) -> bool
 {
     match place {
         Place::Elsewhere => false,
+        Place::InLine => false,
         _ => true,
     }
 }

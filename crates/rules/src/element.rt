@@ -4,25 +4,24 @@ ghost use mathlib.Core.List.{[]};
 ghost use Prim.Native.Nat.{_≤_};
 ghost use lib.ListN.{length, getD};
 ghost use Rattle.text.specs.Bytes.{lower};
+ghost use Rattle.text.specs.Limits.{textLimit};
 ghost use Rattle.text.specs.Lines.{body};
 ghost use Rattle.text.specs.Parts.{lineIn};
-ghost use Rattle.rules.specs.Elements.{firstOf, rules3to9, rules1to9};
+ghost use Rattle.rules.specs.Elements.{rules3to9};
+ghost use Rattle.rules.specs.Places.{allowsRules};
 ghost use Rattle.rules.specs.Known.{Knows};
-ghost use Rattle.rules.specs.Findings.{LineOf, InScope, wanting, paragraphRun, ruleOn, elementOn};
+ghost use Rattle.rules.specs.FirstRule.{paragraph, element};
+ghost use Rattle.rules.specs.Findings.{LineOf, InScope, Parses, wanting, paragraphRun};
+use crate::ahead::Further;
+use crate::ahead::Parsed;
 use crate::ahead::ends_after;
 use crate::ahead::names_after;
-use crate::block::try_block;
-use crate::drawer::try_drawer;
-use crate::drawer::try_property_drawer;
-use crate::horizontal::try_horizontal_rule;
-use crate::keyword::try_keyword;
+use crate::first_rule::find_rule;
+use crate::item::is_item;
 use crate::kind;
-use crate::lines::LineClass;
 use crate::lines::LineRun;
-use crate::lines::try_run;
-use crate::lines::try_table;
+use crate::list_element::list_at;
 use crate::place::Place;
-use crate::planning::try_planning;
 use crate::rule::Element;
 use crate::rule::Rule;
 use crate::scope::Scope;
@@ -32,54 +31,6 @@ use text::bytes::run_end;
 use text::line::LineSpan;
 use text::line::line_at;
 use text::line::line_end;
-
-// Rules 2, 4 and 7: those of a body that starts with `:`.
-fn try_colon(text: &[u8], line: LineSpan, scope: Scope) -> Rule
-    requires { ⌜ InScope (now text) line scope ⌝ }
-    ensures { λ r. ⌜ r ≡ ruleOn (firstOf (wanting 58 (rules1to9 (scope .place)))) (now (text .entry)) line scope ⌝ }
-{
-    if let Rule::Holds(e) = try_property_drawer(text, line, scope) {
-        return Rule::Holds(e);
-    }
-    if let Rule::Holds(e) = try_drawer(text, line, scope) {
-        return Rule::Holds(e);
-    }
-    try_run(text, line, scope, LineClass::FixedWidth, kind::FIXED_WIDTH)
-}
-
-// Rules 3, 6 and 9: those of a body that starts with `#`.
-fn try_hash(text: &[u8], line: LineSpan, scope: Scope) -> Rule
-    requires { ⌜ InScope (now text) line scope ⌝ }
-    ensures { λ r. ⌜ r ≡ ruleOn (firstOf (wanting 35 (rules1to9 (scope .place)))) (now (text .entry)) line scope ⌝ }
-{
-    if let Rule::Holds(e) = try_block(text, line, scope) {
-        return Rule::Holds(e);
-    }
-    if let Rule::Holds(e) = try_run(text, line, scope, LineClass::Comment, kind::COMMENT) {
-        return Rule::Holds(e);
-    }
-    try_keyword(text, line, scope)
-}
-
-// The first of rules 1 to 9 that holds. The first byte after the indentation tells which can.
-pub fn find_rule(text: &[u8], line: LineSpan, scope: Scope) -> Rule
-    requires { ⌜ InScope (now text) line scope ⌝ }
-    ensures { λ r. ⌜ r ≡ ruleOn (firstOf (rules1to9 (scope .place))) (now (text .entry)) line scope ⌝ }
-{
-    let from = line.from;
-    if line.to <= from {
-        return Rule::Fails;
-    }
-    let first = text[from];
-    match first {
-        b'C'..=b'D' | b'c'..=b'd' | b'S' | b's' => try_planning(text, line, scope),
-        b':' => try_colon(text, line, scope),
-        b'#' => try_hash(text, line, scope),
-        b'|' => try_table(text, line, scope),
-        b'-' => try_horizontal_rule(text, line, scope),
-        _ => Rule::Fails,
-    }
-}
 
 // Whether a byte is a letter, a digit, `_` or above ASCII. A line whose body starts with one is not blank, and none of rules 3 to 9 wants it.
 fn starts_text(b: u8) -> bool
@@ -91,14 +42,7 @@ fn starts_text(b: u8) -> bool
     is_name(b) && b != b'-'
 }
 
-// The further lines of a paragraph, and what is known of those after them.
-pub struct Further {
-    pub run: LineRun,
-    pub ends: bool,
-    pub names: u64,
-}
-
-// The further lines of a paragraph: up to a blank line, the end, or a line where a rule holds.  [01 rule 10]
+// The further lines of a paragraph: up to a blank line, the end, a line where a rule holds, or an item line.  [01 rule 10, 02 order 4]
 // The first byte after the indentation spares most lines the search for a rule.
 fn paragraph_lines(text: &[u8], from: usize, scope: Scope) -> Further
     requires { ⌜ (from ≤ scope .end) × (scope .end ≤ length (now text)) × Knows (now text) from (scope .end) (scope .ends) (scope .names) ⌝ }
@@ -116,6 +60,9 @@ fn paragraph_lines(text: &[u8], from: usize, scope: Scope) -> Further
         }
         let first = text[body];
         if first == 10 {
+            break;
+        }
+        if is_item(text, at, body, to) {
             break;
         }
         if starts_text(first) {
@@ -161,25 +108,11 @@ fn first_byte(text: &[u8], line: LineSpan, to: usize) -> u8
     if line.to <= from { 0 } else { text[from] }
 }
 
-// An element, and what is known of the lines after its own.
-pub struct Parsed {
-    pub element: Element,
-    pub ends: bool,
-    pub names: u64,
-}
-
-// The element at a line.
-pub fn element_at(text: &[u8], line: LineSpan, scope: Scope) -> Parsed
+// The paragraph at a line.  [01 rule 10]
+fn paragraph_at(text: &[u8], line: LineSpan, scope: Scope) -> Parsed
     requires { ⌜ InScope (now text) line scope ⌝ }
-    ensures { λ r. ⌜ (r .element ≡ elementOn (now (text .entry)) line scope) × Knows (now (text .entry)) (r .element .end) (scope .end) (r .ends) (r .names) ⌝ }
+    ensures { λ r. ⌜ Parses paragraph (now (text .entry)) line scope r ⌝ }
 {
-    if let Rule::Holds(e) = find_rule(text, line, scope) {
-        return Parsed {
-            element: e,
-            ends: scope.ends,
-            names: scope.names,
-        };
-    }
     let first = first_byte(text, line, scope.end);
     let mut ends = scope.ends;
     let mut names = scope.names;
@@ -210,4 +143,35 @@ pub fn element_at(text: &[u8], line: LineSpan, scope: Scope) -> Parsed
         ends: further.ends,
         names: further.names,
     }
+}
+
+// Whether rules are tried at a place: not inside a line.
+fn allows_rules(place: Place) -> bool
+    ensures { λ r. ⌜ r ≡ allowsRules place ⌝ }
+{
+    match place {
+        Place::InLine => false,
+        _ => true,
+    }
+}
+
+// The element at a line: what the first of rules 1 to 9a that holds finds, else a paragraph. Inside a line only a paragraph starts.
+pub fn element_at(text: &[u8], line: LineSpan, scope: Scope) -> Parsed
+    requires { ⌜ InScope (now text) line scope × (scope .end ≤ textLimit) ⌝ }
+    ensures { λ r. ⌜ Parses (element (scope .place)) (now (text .entry)) line scope r ⌝ }
+{
+    let place = scope.place;
+    if allows_rules(place) {
+        if let Rule::Holds(e) = find_rule(text, line, scope) {
+            return Parsed {
+                element: e,
+                ends: scope.ends,
+                names: scope.names,
+            };
+        }
+        if is_item(text, line.start, line.from, scope.end) {
+            return list_at(text, line, scope);
+        }
+    }
+    paragraph_at(text, line, scope)
 }

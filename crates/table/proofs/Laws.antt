@@ -5,3 +5,4 @@ pub mod Fits
 pub mod Proper
 pub mod Reading
 pub mod Lines
+pub mod Closers

@@ -4,6 +4,7 @@ pub mod Proper
 pub mod Makers
 pub mod Reading
 pub mod Nesting
+pub mod Closers
 pub mod Promises
 pub mod Cases
 pub mod Pinned

@@ -9,7 +9,8 @@ use Rattle.text.specs.LineNumbers.{lineNumber, OpenLineNumbers}
 use Rattle.text.specs.Parts.{linesIn, nextLine}
 use Rattle.rules.specs.Kind
 use Rattle.rules.specs.Headings.{isHeadingUpTo, stars}
-use Rattle.rules.specs.Elements.{elementAt}
+use Rattle.rules.specs.Elements.{Found}
+use Rattle.rules.specs.FirstRule.{elementAt, itemAt}
 use Rattle.rules.specs.Kind.{innerOf}
 use Rattle.rules.specs.Spans.{innerFrom, innerTo, OpenSpans}
 use Rattle.table.specs.declared.record.Record.{Record}
@@ -35,11 +36,10 @@ sectionRecord s c q =
     let e = sectionEnd s c in
     record { kind = Kind.section; start = a; end = e; from = a; to = e; parent = q; detail = 0; line = lineNumber s a }
 
--- Blank lines after an element, before the end, are the element's.
-unfoldable pub elementRecord : List ℕ → ℕ → ℕ → ℕ → Record
-elementRecord s e q p =
+-- what a rule finds; blank lines after it, before the end, are its own
+unfoldable pub foundRecord : List ℕ → ℕ → ℕ → ℕ → Found → Record
+foundRecord s e q p f =
     let ls = linesIn s p e in
-    let f = elementAt s p e in
     let n = f .own in
     let b = p + size (take (n + blanks (drop n ls)) ls) in
     record {
@@ -52,6 +52,15 @@ elementRecord s e q p =
       detail = f .detail;
       line = lineNumber s p;
     }
+
+unfoldable pub elementRecord : List ℕ → ℕ → ℕ → ℕ → Record
+unfolding foundRecord
+elementRecord s e q p = foundRecord s e q p (elementAt s p e)
+
+-- an item of a list  [02 order 4]
+unfoldable pub itemRecord : List ℕ → ℕ → ℕ → ℕ → Record
+unfolding foundRecord
+itemRecord s e q p = foundRecord s e q p (itemAt s p e)
 
 -- A node property or row spans its line.
 unfoldable pub lineRecord : ℕ → (Line → ℕ) → List ℕ → ℕ → ℕ → ℕ → Record
@@ -69,16 +78,18 @@ lineRecord k d s e q p =
       line = lineNumber s p;
     }
 
--- what stands at byte p of a property drawer, a table, or a section, drawer or greater block
+-- what stands at byte p of a property drawer, a table, a list, or a section, drawer, greater block or item
 unfoldable pub childRecord : List ℕ → Record → ℕ → ℕ → Record
 childRecord s c q p =
     elim (eqb (c .kind) Kind.propertyDrawer) [
       | true ↦ lineRecord Kind.nodeProperty (λ l. 0) s (c .to) q p
-      | false ↦ elim (eqb (c .kind) Kind.table)
-          [ true ↦ lineRecord Kind.row rowDetail s (c .to) q p | false ↦ elementRecord s (c .to) q p ]
+      | false ↦ elim (eqb (c .kind) Kind.table) [
+        | true ↦ lineRecord Kind.row rowDetail s (c .to) q p
+        | false ↦ elim (eqb (c .kind) Kind.list) [ true ↦ itemRecord s (c .to) q p | false ↦ elementRecord s (c .to) q p ]
+      ]
     ]
 
 -- opens the definitions of this file and of those it stands on, for computed examples
 unfoldable pub OpenMakers : Type 1
-unfolding OpenLineNumbers OpenSpans OpenSections headingRecord sectionRecord elementRecord lineRecord childRecord
+unfolding OpenLineNumbers OpenSpans OpenSections headingRecord sectionRecord foundRecord elementRecord itemRecord lineRecord childRecord
 OpenMakers = Type 0

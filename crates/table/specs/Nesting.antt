@@ -1,5 +1,5 @@
--- The nesting of a table  [01 "Numbers of an answer"]: an outermost drawer or greater block has depth 1, any other is one deeper than the
--- nearest around it; verbatim blocks don't count. A table's nesting is the greatest depth in it, else 0.
+-- The nesting of a table  [01 "Numbers of an answer"]: an outermost drawer, greater block or list has depth 1, any other is one deeper than the
+-- nearest around it; verbatim blocks don't count, nor do items  [02 order 4]. A table's nesting is the greatest depth in it, else 0.
 use mathlib.Core.Bool.{true, false}
 use mathlib.Core.List.{List, [], _∷_, _++_}
 use Prim.Native.Nat.{ℕ, suc, max}

@@ -2,4 +2,6 @@
 -- an example where it holds and one where it just fails. Kinds are written as the document's numbers.
 pub mod Headings
 pub mod Containers
+pub mod Lists
 pub mod Nesting
+pub mod Closers

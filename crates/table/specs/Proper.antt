@@ -13,7 +13,8 @@ use Rattle.text.specs.Parts.{linesIn, firstLine, nextLine}
 use Rattle.rules.specs.Kind
 use Rattle.rules.specs.Kind.{holdsSections, holdsElements, isHolder, innerOf}
 use Rattle.rules.specs.Headings.{isHeading, isHeadingUpTo, stars}
-use Rattle.rules.specs.Elements.{elementAt}
+use Rattle.rules.specs.Elements.{Found}
+use Rattle.rules.specs.FirstRule.{elementAt, itemAt}
 use Rattle.rules.specs.Spans.{innerFrom, innerTo}
 use Rattle.table.specs.declared.record.Record.{Record}
 use Rattle.table.specs.Records.{at, up}
@@ -77,15 +78,22 @@ IsSectionRecord s c r = Has r Kind.section (sectionEnd s c) (r .start) (sectionE
 unfoldable pub IsTopRecord : List ℕ → Record → Record → Type 0
 IsTopRecord s c r = elim (isHeading (lineAt s (r .start))) [ true ↦ IsHeadingRecord s r | false ↦ IsSectionRecord s c r ]
 
--- an element of a container that ends at e: the first rule that holds at its first line, its own lines and the blank lines after them
-unfoldable pub IsElementRecord : List ℕ → ℕ → Record → Type 0
-IsElementRecord s e r =
+-- what a rule finds at its first line, in a container that ends at e: its own lines and the blank lines after them
+unfoldable pub HasFound : List ℕ → ℕ → Found → Record → Type 0
+HasFound s e f r =
     let ls = linesIn s (r .start) e in
-    let f = elementAt s (r .start) e in
     Has r (f .kind) (r .start + size (take (f .own + blanks (drop (f .own) ls)) ls))
     (innerFrom (innerOf (r .kind)) (r .start) ls)
     (innerTo (innerOf (r .kind)) (r .start) (r .end) ls (f .own))
     (f .detail)
+
+-- an element of a container that ends at e: the first rule that holds at its first line
+unfoldable pub IsElementRecord : List ℕ → ℕ → Record → Type 0
+IsElementRecord s e r = HasFound s e (elementAt s (r .start) e) r
+
+-- an item of a list that ends at e  [02 order 4]
+unfoldable pub IsItemRecord : List ℕ → ℕ → Record → Type 0
+IsItemRecord s e r = HasFound s e (itemAt s (r .start) e) r
 
 -- a node property or a row, in a container that ends at e, spans its line
 unfoldable pub IsLineRecord : List ℕ → ℕ → ℕ → (Line → ℕ) → Record → Type 0
@@ -132,15 +140,17 @@ pub record Proper (s : List ℕ) (R : List Record) : Type 0 where
       → ((at R k) .start ≡ sectionStart s (up R k)) × ((at R k) .end ≡ sectionEnd s (up R k)))
   pub sectionsAll : Each R (λ i. T (holdsSections ((at R i) .kind)) → sectionStart s (at R i) < sectionEnd s (at R i)
       → (suc i < length R) × ((at R (suc i)) .kind ≡ Kind.section) × ((at R (suc i)) .parent ≡ i))
-  -- In kinds 1, 2, 3, 5, 7, 8 and 10 children lie in the parent's inner span. All other kinds are leaves and have no children.
+  -- In kinds 1, 2, 3, 5, 7, 8, 10, 17 and 18 children lie in the parent's inner span. All other kinds are leaves and have no children.
   pub within : EachLater R (λ k. Within (up R k) (at R k))
   pub holders : EachLater R (λ k. T (isHolder ((up R k) .kind)))
   -- Each starts where the one before ended; the last ends at the inner end. Before the first, or where there is none, only blank lines stand.
   pub tiled : Each R (λ i. T (isHolder ((at R i) .kind))
       → Tiled (firstLine s ((at R i) .from) ((at R i) .to)) ((at R i) .to) (children R i))
-  -- Children of the document or a heading are headings and sections; of a section, drawer or greater block, elements; of a property drawer,
-  -- node properties, one for each line; of a table, rows, one for each row line. Kind, end, inner span and detail are as said.
+  -- Children of the document or a heading are headings and sections; of a section, drawer, greater block or item, elements; of a list, items  [02
+  -- order 4]; of a property drawer, node properties, one for each line; of a table, rows, one for each row line. Kind, end, inner span and detail
+  -- are as said.
   pub tops : EachLater R (λ k. T (holdsSections ((up R k) .kind)) → IsTopRecord s (up R k) (at R k))
   pub elements : EachLater R (λ k. T (holdsElements ((up R k) .kind)) → IsElementRecord s ((up R k) .to) (at R k))
+  pub items : EachLater R (λ k. (up R k) .kind ≡ Kind.list → IsItemRecord s ((up R k) .to) (at R k))
   pub properties : EachLater R (λ k. (up R k) .kind ≡ Kind.propertyDrawer → IsLineRecord s ((up R k) .to) Kind.nodeProperty (λ l. 0) (at R k))
   pub rows : EachLater R (λ k. (up R k) .kind ≡ Kind.table → IsLineRecord s ((up R k) .to) Kind.row rowDetail (at R k))

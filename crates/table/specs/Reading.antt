@@ -2,7 +2,7 @@
 -- A record is followed at once by all that it holds, children by start, before anything after it.
 use mathlib.Core.Bool.{true, false}
 use mathlib.Core.List.{List, [], _∷_, _++_}
-use Prim.Native.Nat.{ℕ, zero, suc, _+_, _-_}
+use Prim.Native.Nat.{ℕ, zero, suc, _+_, _-_, _*_}
 use lib.ListN.{length}
 use lib.Dec.{ltb}
 use Rattle.text.specs.Parts.{firstLine}
@@ -13,8 +13,9 @@ use Rattle.table.specs.Records.{OpenRecords}
 use Rattle.table.specs.Sections.{lineAt, sectionEnd}
 use Rattle.table.specs.Makers.{documentRecord, headingRecord, sectionRecord, childRecord, OpenMakers}
 
--- What container c, of index q, holds from byte p on; the first record has index k. n only makes the recursion end: it is more than the
--- range's length, which falls at each call but the one for a table's rows, which hold nothing.
+-- What container c, of index q, holds from byte p on; the first record has index k. n only makes the recursion end: it is more than twice
+-- the range's length, which falls at each call but the one for a table's rows, which hold nothing, and the one for a list's items, each of which
+-- is shorter than the list.
 unfoldable pub contents : ℕ → List ℕ → Record → ℕ → ℕ → ℕ → List Record
 contents zero s c q p k = []
 contents (suc n) s c q p k =
@@ -31,7 +32,7 @@ unfoldable pub section : List ℕ → Record → ℕ → ℕ → List Record
 section s c q k =
     let r = sectionRecord s c q in
     elim (ltb (r .start) (r .end))
-    [ true ↦ r ∷ contents (suc (r .end - r .start)) s r k (firstLine s (r .start) (r .end)) (suc k) | false ↦ [] ]
+    [ true ↦ r ∷ contents (suc (2 * (r .end - r .start))) s r k (firstLine s (r .start) (r .end)) (suc k) | false ↦ [] ]
 
 -- the index of the nearest earlier heading with fewer than n stars, else 0; the earlier headings' indexes and stars, the nearest first
 unfoldable pub nearest : ℕ → List (ℕ × ℕ) → ℕ

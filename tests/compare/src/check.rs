@@ -6,6 +6,7 @@ use crate::dates::{check_dates, DateTally};
 use crate::defaults::check_defaults;
 use crate::drawers::{self, check_drawers, Lookup};
 use crate::escape::escape;
+use crate::lists::{self, count_lists};
 use crate::proper::check_proper;
 use crate::random::Random;
 use crate::searches::{self, check_searches};
@@ -23,17 +24,32 @@ pub const SMALL: usize = 400;
 const NODE_PROPERTY: u32 = 6;
 
 /// How many answers of each number and records of each kind the plain reader gave, and how many of
-/// its lookups, with house defaults too, its searches for closers and its answers about dates met
-/// what.
-#[derive(Default)]
+/// its lookups, with house defaults too, its lists, its searches for closers and its answers about
+/// dates met what.
 pub struct Tally {
     pub readings: [usize; 4],
     pub lookups: [usize; 11],
     pub drawers: drawers::Met,
     pub defaults: situations::Met,
-    pub kinds: [usize; 17],
+    pub kinds: [usize; 19],
+    pub lists: lists::Met,
     pub searches: searches::Met,
     pub dates: DateTally,
+}
+
+impl Default for Tally {
+    fn default() -> Self {
+        Tally {
+            readings: Default::default(),
+            lookups: Default::default(),
+            drawers: Default::default(),
+            defaults: Default::default(),
+            kinds: Default::default(),
+            lists: [0; lists::COUNT],
+            searches: Default::default(),
+            dates: Default::default(),
+        }
+    }
 }
 
 /// Compares the answers on `text`; the first difference is told in words.
@@ -49,6 +65,7 @@ pub fn check(text: &[u8], random: &mut Random, tally: &mut Tally) -> Result<(), 
     for record in records {
         tally.kinds[record.kind as usize] += 1;
     }
+    count_lists(text, &reading, &mut tally.lists);
     let keys = property_keys(text, records);
     check_lookups_at_headings(text, &keys, random, tally)?;
     check_lookups_elsewhere(text, random, tally)?;

@@ -1,20 +1,27 @@
 //! Document 01, "When a finished table is a proper reading": the clauses that need no line rule, and
-//! document 02, order 7, by which every "proper reading gains an eighth number".
+//! document 02, order 7, by which every "proper reading gains an eighth number". Those of order 4 are
+//! in `proper_lists`.
 //!
 //! They judge a table by the text and its own numbers alone, so they would also show a mistake that
 //! the plain reader and the library have in common.
 
 use plain_reader::Record;
 
+use crate::proper_lists::check_lists;
+
 const DOCUMENT: u32 = 1;
 const HEADING: u32 = 2;
 const SECTION: u32 = 3;
 const PROPERTY_DRAWER: u32 = 5;
 const NODE_PROPERTY: u32 = 6;
-const DRAWER: u32 = 7;
-const GREATER_BLOCK: u32 = 8;
-const TABLE: u32 = 10;
+pub const DRAWER: u32 = 7;
+pub const GREATER_BLOCK: u32 = 8;
+pub const VERBATIM_BLOCK: u32 = 9;
+pub const TABLE: u32 = 10;
 const ROW: u32 = 11;
+pub const PARAGRAPH: u32 = 16;
+pub const LIST: u32 = 17;
+pub const ITEM: u32 = 18;
 
 /// The first clause that the table fails, in words.
 pub fn check_proper(text: &[u8], records: &[Record]) -> Result<(), String> {
@@ -44,10 +51,11 @@ pub fn check_proper(text: &[u8], records: &[Record]) -> Result<(), String> {
         require(covered, "children cover the inner span", index)?;
     }
     check_headings(text, records)?;
+    check_lists(text, records)?;
     check_line_numbers(text, records)
 }
 
-fn require(holds: bool, clause: &str, index: usize) -> Result<(), String> {
+pub fn require(holds: bool, clause: &str, index: usize) -> Result<(), String> {
     if holds {
         return Ok(());
     }
@@ -64,14 +72,17 @@ fn is_followed_by(records: &[Record], index: usize, next: &Record) -> bool {
 }
 
 /// "Children of the document or a heading are headings and sections; of a section, drawer or greater
-/// block, elements; of a property drawer, node properties [..]; of a table, rows".
+/// block, elements; of a property drawer, node properties [..]; of a table, rows". Order 4: of a list,
+/// items; of an item, elements.
 fn may_hold(parent: u32, child: u32) -> bool {
+    let is_part = matches!(child, NODE_PROPERTY | ROW | ITEM);
     match parent {
         DOCUMENT | HEADING => matches!(child, HEADING | SECTION),
-        SECTION => child > SECTION && child != NODE_PROPERTY && child != ROW,
-        DRAWER | GREATER_BLOCK => child > PROPERTY_DRAWER && child != NODE_PROPERTY && child != ROW,
+        SECTION => child > SECTION && !is_part,
+        DRAWER | GREATER_BLOCK | ITEM => child > PROPERTY_DRAWER && !is_part,
         PROPERTY_DRAWER => child == NODE_PROPERTY,
         TABLE => child == ROW,
+        LIST => child == ITEM,
         _ => false,
     }
 }
@@ -109,15 +120,24 @@ fn children_cover(text: &[u8], records: &[Record], index: usize) -> bool {
     at == parent.inner_end
 }
 
-/// "In kinds 1, 2, 3, 5, 7, 8 and 10 children lie in the parent's inner span".
+/// "In kinds 1, 2, 3, 5, 7, 8 and 10 children lie in the parent's inner span"; order 4: in lists and
+/// items too.
 fn holds_children(kind: u32) -> bool {
     matches!(
         kind,
-        DOCUMENT | HEADING | SECTION | PROPERTY_DRAWER | DRAWER | GREATER_BLOCK | TABLE
+        DOCUMENT
+            | HEADING
+            | SECTION
+            | PROPERTY_DRAWER
+            | DRAWER
+            | GREATER_BLOCK
+            | TABLE
+            | LIST
+            | ITEM
     )
 }
 
-fn is_blank(text: &[u8], start: u32, end: u32) -> bool {
+pub fn is_blank(text: &[u8], start: u32, end: u32) -> bool {
     let bytes = &text[start as usize..end as usize];
     bytes.iter().all(|byte| matches!(byte, 9 | 10 | 13 | 32))
 }

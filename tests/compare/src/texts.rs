@@ -1,5 +1,6 @@
-//! Seeded texts: loose bytes, lines of Org, mutated order books, hostile texts, long texts.
+//! Seeded texts: loose bytes, lines of Org, mutated order books, hostile texts, lists, long texts.
 
+use crate::parts::{add_list, list_text};
 use crate::random::Random;
 use crate::stamps::{planning_body, stamp};
 use crate::words::*;
@@ -11,14 +12,16 @@ pub enum Class {
     Lines,
     Mutated,
     Hostile,
+    Lists,
     Long,
 }
 
-pub const CLASSES: [Class; 5] = [
+pub const CLASSES: [Class; 6] = [
     Class::Bytes,
     Class::Lines,
     Class::Mutated,
     Class::Hostile,
+    Class::Lists,
     Class::Long,
 ];
 
@@ -34,6 +37,8 @@ const SAMPLES: &[&[u8]] = &[
     b"** B\n:LOG:\n\ntext\n\n:END:\n\n* C\n:PROPERTIES:\n:END: x\n:END:\n:END:\n",
     b"* A\nCLOSED: [2026-01-05]\n\n:PROPERTIES:\n:VIN: 7\n* B\n\n* C\n:PROPERTIES:\n:END:\nx\n:END:\n",
     b"* A\n:PROPERTIES:\n:VIN: 7\n  x\n\n:END:\n* B\n:PROPERTIES:\n:a: 1\n** C\n:END:\n",
+    b"- a\n  - b\n\n    c\n\n  - [X] d\n- e\n\n\n1. [@5] f\n2) g\n",
+    b"- a\n  #+begin_a\n- x\n\n\n#+end_a\n  | r\n| s\n#+TBLFM: x\n  b\n-\n\n  :d:\n:END:\n\nx\n",
 ];
 
 const BOOK: &[u8] = include_bytes!("../../books/orders.org");
@@ -47,6 +52,7 @@ pub fn text(random: &mut Random) -> (Class, Vec<u8>) {
         Class::Lines => lines(random),
         Class::Mutated => mutated(random),
         Class::Hostile => hostile(random),
+        Class::Lists => list_text(random),
         Class::Long => long(random),
     };
     (class, text)
@@ -54,10 +60,11 @@ pub fn text(random: &mut Random) -> (Class, Vec<u8>) {
 
 fn class(random: &mut Random) -> Class {
     match random.below(1000) {
-        0..250 => Class::Bytes,
-        250..650 => Class::Lines,
-        650..850 => Class::Mutated,
-        850..998 => Class::Hostile,
+        0..210 => Class::Bytes,
+        210..540 => Class::Lines,
+        540..700 => Class::Mutated,
+        700..820 => Class::Hostile,
+        820..998 => Class::Lists,
         _ => Class::Long,
     }
 }
@@ -89,13 +96,14 @@ fn lines(random: &mut Random) -> Vec<u8> {
 
 /// A part of a book: mostly whole shapes, else any line.
 fn add_part(text: &mut Vec<u8>, random: &mut Random, levels: usize) {
-    match random.below(12) {
+    match random.below(13) {
         0..3 => add_order(text, random),
         3 => add_property_drawer(text, random),
         4 | 5 if levels > 0 => add_block(text, random, levels - 1),
         6 if levels > 0 => add_drawer(text, random, levels - 1),
         7 => add_table(text, random),
         8 => add_blank_lines(text, random),
+        9 => add_list(text, 0, 1, random),
         _ => add_any_line(text, random),
     }
 }
@@ -388,7 +396,9 @@ fn long(random: &mut Random) -> Vec<u8> {
         20..30 => nested(random),
         30..40 => b"a\n\n".repeat(21_846),
         40..44 => b"* \n".repeat(21_846),
-        44..48 => b"|\n".repeat(32_769),
+        44..46 => b"|\n".repeat(32_769),
+        46 => b"-\n".repeat(32_769),
+        47 => list_text(random).repeat(random.between(1, 1_500)),
         48..56 => BOOK.to_vec(),
         _ => Vec::new(),
     };

@@ -28,7 +28,7 @@ pub const LOOSE_PIECES: &[&[u8]] = &[
     b"|", b"|-", b"-", b"-----", b"a", b"A", b"e", b"_", b":a:", b":END:", b":end:", b"#+begin_a",
     b"#+end_a", b"#+begin_src", b"#+END_SRC", b":PROPERTIES:", b"CLOSED:", b"#+TBLFM:", b"\x00",
     b"\x0B", b"\x0C", b"\xC3\xA9", b"\xFF", b"* \nCLOSED: ", b"<2026-01-05", b"[2026-01-05]", b">",
-    b"--",
+    b"--", b"\n- ", b"\n  ", b"\n -", b"1. ", b"a)", b"[ ]", b"[@1]", b"\n\n\n",
 ];
 
 #[rustfmt::skip]
@@ -249,4 +249,87 @@ pub const HOUSE_VALUES: &[&[u8]] = &[
 #[rustfmt::skip]
 pub const HOUSE_CLOSERS: &[&[u8]] = &[
     b":END:\n", b":END:\n", b":END:\n", b":end:\n", b"\n:END:\n", b"x\n:END:\n", b"",
+];
+
+/// What may stand before lists.
+#[rustfmt::skip]
+pub const LIST_FRONTS: &[&[u8]] = &[
+    b"", b"", b"", b"* A\n", b"* A\nCLOSED: [2026-01-05]\n", b"# note\n", b"text\n", b"#+begin_quote\n",
+    b":d:\n", b"* A\n:PROPERTIES:\n:VIN: 7\n:END:\n", b"* A\n:PROPERTIES:\n", b"\n", b"-\n", b":PROPERTIES:\n:END:\n",
+];
+
+/// What may stand after lists; some are closers of what stands far above.
+#[rustfmt::skip]
+pub const LIST_ENDS: &[&[u8]] = &[
+    b"", b"", b"", b"#+end_quote\n", b"  #+end_quote\n", b":END:\n", b"    :END:\nx\n", b"#+end_a\n", b"* B\n",
+    b"text\n", b"\n", b"\n\n", b"\n* B\n", b"\ntext\n", b"-", b"  -", b"-----\n",
+];
+
+#[rustfmt::skip]
+pub const BULLETS: &[&[u8]] = &[
+    b"-", b"-", b"-", b"-", b"+", b"+", b"*", b"1.", b"2)", b"0123456789.", b"a.", b"B)", b"-", b"1)",
+];
+
+/// What just misses.
+#[rustfmt::skip]
+pub const NO_BULLETS: &[&[u8]] = &[
+    b"--", b"1", b"ab.", b"1a)", b"-----", b"----", b"\r-", b"**", b".", b"(1)", b"\xE9.",
+];
+
+/// What may follow a bullet; the last two make none of it.
+#[rustfmt::skip]
+pub const AFTER_BULLETS: &[&[u8]] = &[
+    b" ", b" ", b" ", b" ", b" ", b" ", b" ", b" ", b"  ", b"\t", b"\r", b" \r\t", b"", b"\x0B",
+];
+
+/// Counter sets, and some that just miss.
+#[rustfmt::skip]
+pub const COUNTER_SETS: &[&[u8]] = &[
+    b"[@5] ", b"[@a] ", b"[@Z]\t", b"[@012]  ", b"[@5]", b"[@] ", b"[@ab] ", b"[@5 ] ", b"[5] ",
+];
+
+/// Check boxes, and some that just miss.
+#[rustfmt::skip]
+pub const CHECK_BOXES: &[&[u8]] = &[
+    b"[ ] ", b"[X] ", b"[x]\r", b"[-] ", b"[\t]  ", b"[\r] ", b"[X]", b"[] ", b"[Y] ", b"[  ] ",
+];
+
+/// What may stand on an item's first line; most looks like something else.
+#[rustfmt::skip]
+pub const ITEM_TEXTS: &[&[u8]] = &[
+    b"part", b"part", b"part", b"part", b"a :: b", b"| r", b"# c", b": f", b"#+k: v", b"-----", b"- b", b"1. b",
+    b"#+begin_a", b"#+begin_src", b":d:", b":END:", b"#+end_a", b"* b", b"CLOSED: [2026-01-05]", b"[", b"",
+    b"[@5] b", b"[X] b",
+];
+
+#[rustfmt::skip]
+pub const LINE_ENDS: &[&[u8]] = &[
+    b"\n", b"\n", b"\n", b"\n", b"\n", b"\n", b"\n", b"\r\n", b" \n",
+];
+
+/// What may stand between items.
+#[rustfmt::skip]
+pub const ITEM_GAPS: &[&[u8]] = &[
+    b"", b"", b"", b"", b"", b"", b"\n", b"\n", b"\n", b" \n", b"\r\n", b"\n\n", b" \n\t\n",
+];
+
+/// Openers of blocks, each with its closer.
+#[rustfmt::skip]
+pub const BLOCK_PAIRS: &[&[&[u8]; 2]] = &[
+    &[b"#+begin_a", b"#+end_a"], &[b"#+BEGIN_src lua", b"#+end_SRC"], &[b"#+begin_quote", b"#+end_quote"],
+    &[b"#+begin_example", b"#+end_example"],
+];
+
+/// Openers of drawers, each with its closer.
+#[rustfmt::skip]
+pub const DRAWER_PAIRS: &[&[&[u8]; 2]] = &[
+    &[b":d:", b":END:"], &[b":PROPERTIES:", b":end:"], &[b":LOG:", b":END: "],
+];
+
+/// Bodies of lines in and around lists.
+#[rustfmt::skip]
+pub const HEAP_BODIES: &[&[u8]] = &[
+    b"text", b"text", b"- a", b"-", b"+ b", b"1. c", b"* d", b"", b"", b":d:", b":END:", b"#+begin_a", b"#+end_a",
+    b"#+begin_src", b"#+end_src", b"#+begin_quote", b"#+end_quote", b"| r", b"#+TBLFM: x", b"# c", b": f", b"-----",
+    b"#+k: v", b"\rx", b":PROPERTIES:", b":VIN: 7",
 ];

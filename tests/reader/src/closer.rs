@@ -36,20 +36,20 @@ fn search(opener: &Line, later: &[Line]) -> Answer {
 }
 
 /// What an opener is closed by.
-enum Closer<'t> {
+pub enum Closer<'t> {
     OfBlock { name: &'t [u8] },
     OfDrawer,
 }
 
 impl<'t> Closer<'t> {
-    fn of(opener: &Line<'t>) -> Option<Self> {
+    pub fn of(opener: &Line<'t>) -> Option<Self> {
         match block_name(opener) {
             Some(name) => Some(Closer::OfBlock { name }),
             None => is_drawer_opener(opener).then_some(Closer::OfDrawer),
         }
     }
 
-    fn is(&self, line: &Line) -> bool {
+    pub fn is(&self, line: &Line) -> bool {
         match self {
             Closer::OfBlock { name } => is_block_closer(line, name),
             Closer::OfDrawer => is_end_line(line),

@@ -1,5 +1,5 @@
-//! A plain reader of Org order books, written from documents 01 and 02 alone, and for the parts of a
-//! timestamp from source 001.
+//! A plain reader of Org order books, written from documents 01 and 02 alone, for the parts of a
+//! timestamp from source 001 and for counter sets and check boxes from source 000.
 //!
 //! It shares nothing with the proved reader and is what that one is compared with. It is meant to
 //! be checked against the documents by eye, sentence by sentence, so it is simple before it is fast:
@@ -14,13 +14,16 @@
 //! | order 1 | `stamp`, `numbers`, `planning`, `days`; rule 1 in `rules` |
 //! | order 2 | `lookup` |
 //! | order 3 | `closer` |
+//! | order 4 | `item`, `list`; rule 9a in `rules`, the records in `reading` |
 //! | order 13 | `defaults` |
 
 mod answer;
 mod closer;
 mod days;
 mod defaults;
+mod item;
 mod line;
+mod list;
 mod lookup;
 mod numbers;
 mod planning;
@@ -40,7 +43,7 @@ pub use reading::{read, Reading, Record};
 /// "1 | text over 65,536 bytes".
 pub const LONGEST_TEXT: usize = 65_536;
 
-/// "2 | a drawer or greater block lies at depth 33 or more".
+/// "2 | a drawer or greater block lies at depth 33 or more"; order 4: "Lists count towards depth 32."
 pub const GREATEST_DEPTH: usize = 32;
 
 /// "over 64 bytes" makes a key a bad one.

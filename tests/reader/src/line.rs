@@ -1,4 +1,4 @@
-//! Document 01, "Bytes and lines".
+//! Document 01, "Bytes and lines"; indentation as document 02, order 4, counts it.
 
 /// A part of the text. "Ends are one past."
 #[derive(Clone, Copy, Debug, PartialEq, Eq)]
@@ -15,6 +15,8 @@ pub struct Line<'t> {
     pub body_span: Span,
     /// The bytes of the body.
     pub body: &'t [u8],
+    /// The bytes of the line.
+    bytes: &'t [u8],
     /// The stars of a heading line, else 0.
     pub stars: usize,
 }
@@ -84,13 +86,14 @@ fn line_from(bytes: &[u8], start: usize) -> Line<'_> {
             end: start + body.end,
         },
         body: &bytes[body.start..body.end],
+        bytes,
         stars: heading_stars(bytes),
     }
 }
 
 /// "A line's body runs from after the indentation to its last non-blank byte."
 fn body_of(bytes: &[u8]) -> Span {
-    let start = indentation(bytes);
+    let start = leading_run(bytes);
     let last = bytes.iter().rposition(|byte| is_non_blank_byte(*byte));
     Span {
         start,
@@ -99,7 +102,7 @@ fn body_of(bytes: &[u8]) -> Span {
 }
 
 /// "Indentation is the leading run of 32 and 9 only."
-fn indentation(bytes: &[u8]) -> usize {
+fn leading_run(bytes: &[u8]) -> usize {
     let leading = bytes.iter().take_while(|byte| matches!(**byte, 32 | 9));
     leading.count()
 }
@@ -113,6 +116,18 @@ impl Line<'_> {
     /// "A blank line has no others before its end."
     pub fn is_blank(&self) -> bool {
         self.body.is_empty()
+    }
+
+    /// Order 4: "Indentation counts 1 for a space, 8 for a tab."
+    pub fn indentation(&self) -> usize {
+        let indentation = self.bytes[..leading_run(self.bytes)].iter();
+        indentation.map(|byte| if *byte == 9 { 8 } else { 1 }).sum()
+    }
+
+    /// Where its byte 10 stands, or the text ends.
+    pub fn line_end(&self) -> usize {
+        let bytes = self.bytes.strip_suffix(b"\n").unwrap_or(self.bytes);
+        self.span.start + bytes.len()
     }
 
     /// The first byte that is not 32, 9 or 13; a body may start with byte 13.

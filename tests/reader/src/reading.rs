@@ -1,8 +1,10 @@
-//! Document 01, "A record" and "Headings and sections first", and document 02, order 7: the table of
-//! a text.
+//! Document 01, "A record" and "Headings and sections first", and document 02, orders 4 and 7: the
+//! table of a text.
 
-use crate::line::{lines_of, Line, Span};
-use crate::rules::{element_at, node_property, row_detail, Element};
+use crate::item::item_line;
+use crate::line::{Line, Span};
+use crate::list::{items_of_list, Item};
+use crate::rules::{element_at, node_property, paragraph_end, row_detail, Element, Ends, Text};
 use crate::{GREATEST_DEPTH, LONGEST_TEXT, NUMBERS_OF_A_RECORD};
 
 const DOCUMENT: u32 = 1;
@@ -21,6 +23,8 @@ const FIXED_WIDTH: u32 = 13;
 const HORIZONTAL_RULE: u32 = 14;
 const KEYWORD: u32 = 15;
 const PARAGRAPH: u32 = 16;
+const LIST: u32 = 17;
+const ITEM: u32 = 18;
 
 /// "Seven numbers: kind, start, end, inner start, inner end, parent's index, detail." Order 7: "an
 /// eighth number: how many bytes 10 stand before the record's start".
@@ -67,8 +71,8 @@ pub fn read(text: &[u8]) -> Reading {
         return Reading::TooLong;
     }
     let mut reader = Reader {
-        text,
-        lines: lines_of(text),
+        bytes: text,
+        text: Text::new(text),
         records: Vec::new(),
         nesting: 0,
     };
@@ -80,19 +84,19 @@ pub fn read(text: &[u8]) -> Reading {
 }
 
 struct Reader<'t> {
-    text: &'t [u8],
-    lines: Vec<Line<'t>>,
+    bytes: &'t [u8],
+    text: Text<'t>,
     records: Vec<Record>,
-    /// The greatest depth of a drawer or greater block met so far.
+    /// The greatest depth of a drawer, greater block or list met so far.
     nesting: usize,
 }
 
-/// What an element is held by: the index of that record, the line that ends it, and how many
-/// drawers and greater blocks stand around its elements.
+/// What an element is held by: the index of that record, the lines where its elements end, and how
+/// many drawers, greater blocks and lists stand around these.
 #[derive(Clone, Copy)]
 struct Container {
     index: usize,
-    end: usize,
+    ends: Ends,
     depth: usize,
 }
 
@@ -102,14 +106,14 @@ impl Reader<'_> {
     fn document(&mut self) {
         let whole = Span {
             start: 0,
-            end: self.text.len(),
+            end: self.bytes.len(),
         };
         self.record(DOCUMENT, whole, whole, 0, 0);
         let first_heading = self.next_heading_line(0);
         self.section(0, first_heading, 0);
         let mut headings = Vec::new();
         let mut at = first_heading;
-        while at < self.lines.len() {
+        while at < self.text.lines.len() {
             let next = self.next_heading_line(at + 1);
             let index = self.heading(at, &mut headings);
             self.section(at + 1, next, index);
@@ -120,7 +124,7 @@ impl Reader<'_> {
     /// "Its parent is the nearest earlier heading with fewer stars, else the document." `earlier`
     /// holds the stars and the index of every earlier heading.
     fn heading(&mut self, at: usize, earlier: &mut Vec<(usize, usize)>) -> usize {
-        let line = self.lines[at];
+        let line = self.text.lines[at];
         let fewer = |heading: &&(usize, usize)| heading.0 < line.stars;
         let parent = earlier.iter().rev().find(fewer);
         let parent = parent.map_or(0, |heading| heading.1);
@@ -140,17 +144,17 @@ impl Reader<'_> {
 
     /// "It ends before the next heading line with as many stars or fewer, or at the text's end."
     fn heading_end(&self, at: usize) -> usize {
-        let stars = self.lines[at].stars;
-        let later = self.lines[at + 1..].iter();
+        let stars = self.text.lines[at].stars;
+        let later = self.text.lines[at + 1..].iter();
         let ender = later
             .filter(|line| line.is_heading())
             .find(|line| line.stars <= stars);
-        ender.map_or(self.text.len(), |line| line.span.start)
+        ender.map_or(self.bytes.len(), |line| line.span.start)
     }
 
     fn next_heading_line(&self, from: usize) -> usize {
-        let found = self.lines[from..].iter().position(Line::is_heading);
-        found.map_or(self.lines.len(), |distance| from + distance)
+        let found = self.text.lines[from..].iter().position(Line::is_heading);
+        found.map_or(self.text.lines.len(), |distance| from + distance)
     }
 
     /// "From the first non-blank line to the next heading line or text end there is one section; if
@@ -166,7 +170,7 @@ impl Reader<'_> {
             first,
             Container {
                 index,
-                end,
+                ends: Ends::at(end),
                 depth: 0,
             },
         );
@@ -176,16 +180,17 @@ impl Reader<'_> {
     /// closer as the new end." "Blank lines before a container's first element are the container's
     /// own."
     fn elements(&mut self, from: usize, container: Container) {
-        let mut at = self.after_blank_lines(from, container.end);
-        while at < container.end {
+        let end = container.ends.container;
+        let mut at = self.after_blank_lines(from, end);
+        while at < end {
             at = self.element(at, container);
         }
     }
 
     /// Writes the element at line `at` and all that it holds; gives the line after it.
     fn element(&mut self, at: usize, container: Container) -> usize {
-        let body = self.lines[at].body_span;
-        match element_at(&self.lines, at, container.end) {
+        let body = self.text.lines[at].body_span;
+        match element_at(&self.text, at, container.ends) {
             Element::Planning => self.leaf(PLANNING, at, at + 1, body, 0, container),
             Element::PropertyDrawer { closer } => self.property_drawer(at, closer, container),
             Element::GreaterBlock { closer, detail } => {
@@ -201,6 +206,7 @@ impl Reader<'_> {
             Element::FixedWidth { end } => self.own_lines(FIXED_WIDTH, at, end, container),
             Element::HorizontalRule => self.leaf(HORIZONTAL_RULE, at, at + 1, body, 0, container),
             Element::Keyword { value } => self.leaf(KEYWORD, at, at + 1, value, 0, container),
+            Element::List => self.list(at, container),
             Element::Paragraph { end } => self.own_lines(PARAGRAPH, at, end, container),
         }
     }
@@ -216,7 +222,7 @@ impl Reader<'_> {
         detail: u32,
         container: Container,
     ) -> usize {
-        let next = self.after_blank_lines(own_end, container.end);
+        let next = self.after_blank_lines(own_end, container.ends.container);
         let span = self.span_of(at, next);
         self.record(kind, span, inner, container.index, detail);
         next
@@ -247,7 +253,7 @@ impl Reader<'_> {
             at + 1,
             Container {
                 index,
-                end: closer,
+                ends: Ends::at(closer),
                 depth,
             },
         );
@@ -260,8 +266,8 @@ impl Reader<'_> {
         let inner = self.span_of(at + 1, closer);
         let next = self.leaf(PROPERTY_DRAWER, at, closer + 1, inner, 0, container);
         for line in at + 1..closer {
-            if let Some(property) = node_property(&self.lines[line]) {
-                let span = self.lines[line].span;
+            if let Some(property) = node_property(&self.text.lines[line]) {
+                let span = self.text.lines[line].span;
                 self.record(NODE_PROPERTY, span, property.value, index, 0);
             }
         }
@@ -274,16 +280,79 @@ impl Reader<'_> {
         let inner = self.span_of(at, rows_end);
         let next = self.leaf(TABLE, at, end, inner, 0, container);
         for row in at..rows_end {
-            let line = self.lines[row];
+            let line = self.text.lines[row];
             self.record(ROW, line.span, line.body_span, index, row_detail(&line));
         }
         next
     }
 
-    /// The first line from `from` on that isn't blank, else `end`.
+    /// "Items of one indentation in a row make a list, inner span its items, detail 1 if the first has
+    /// a number or letter bullet, else 2." "Lists count towards depth 32."
+    fn list(&mut self, at: usize, container: Container) -> usize {
+        let index = self.records.len();
+        let depth = container.depth + 1;
+        self.nesting = self.nesting.max(depth);
+        let items = items_of_list(&self.text, at, container.ends);
+        let own_end = items.last().map_or(at, |item| item.end);
+        let inner = self.span_of(at, own_end);
+        let next = self.leaf(LIST, at, own_end, inner, self.list_detail(at), container);
+        for item in items {
+            let ends = Ends {
+                container: item.own_end,
+                around_lists: container.ends.around_lists,
+            };
+            self.item(item, Container { index, ends, depth });
+        }
+        next
+    }
+
+    fn list_detail(&self, at: usize) -> u32 {
+        match item_line(&self.text.lines[at]) {
+            Some(first) if first.is_ordered => 1,
+            _ => 2,
+        }
+    }
+
+    /// "An item's detail is 0, and its inner span runs from after bullet, counter set, check box [..]
+    /// to the end of its last non-blank line." `list` tells where the item's elements end.
+    fn item(&mut self, item: Item, list: Container) {
+        let line = self.text.lines[item.at];
+        let inner = Span {
+            start: item_line(&line).map_or(line.line_end(), |first| first.inner_start),
+            end: self.line_start(item.own_end),
+        };
+        let span = self.span_of(item.at, item.end);
+        let index = self.record(ITEM, span, inner, list.index, 0);
+        let held = Container { index, ..list };
+        let below = if inner.start < line.line_end() {
+            self.first_paragraph(inner.start, item.at, held)
+        } else {
+            item.at + 1
+        };
+        self.elements(below, held);
+    }
+
+    /// "What is left on the first line begins a paragraph that goes on by rule 10". It starts at byte
+    /// `start` of line `at`; gives the line after it.
+    fn first_paragraph(&mut self, start: usize, at: usize, item: Container) -> usize {
+        let end = paragraph_end(&self.text, at, item.ends);
+        let next = self.after_blank_lines(end, item.ends.container);
+        let span = Span {
+            start,
+            end: self.line_start(next),
+        };
+        let inner = Span {
+            start,
+            end: self.line_start(end),
+        };
+        self.record(PARAGRAPH, span, inner, item.index, 0);
+        next
+    }
+
+    /// The first line from `from` on that isn't blank, else `end`; `from` where that is past the end.
     fn after_blank_lines(&self, from: usize, end: usize) -> usize {
-        let found = (from..end).find(|index| !self.lines[*index].is_blank());
-        found.unwrap_or(end)
+        let found = (from..end).find(|index| !self.text.lines[*index].is_blank());
+        found.unwrap_or(end.max(from))
     }
 
     /// The bytes of the lines `from` up to `end`.
@@ -295,8 +364,8 @@ impl Reader<'_> {
     }
 
     fn line_start(&self, index: usize) -> usize {
-        let line = self.lines.get(index);
-        line.map_or(self.text.len(), |line| line.span.start)
+        let line = self.text.lines.get(index);
+        line.map_or(self.bytes.len(), |line| line.span.start)
     }
 
     /// Appends a record and gives its index.
@@ -322,7 +391,7 @@ impl Reader<'_> {
             Some(last) => (last.start as usize, last.line_number),
             None => (0, 0),
         };
-        let newlines = self.text[from..start].iter().filter(|byte| **byte == 10);
+        let newlines = self.bytes[from..start].iter().filter(|byte| **byte == 10);
         before + newlines.count() as u32
     }
 }

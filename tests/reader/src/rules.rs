@@ -1,10 +1,62 @@
-//! Document 01, "What starts at a line"; rule 1 by document 02, order 1.
+//! Document 01, "What starts at a line"; rule 1 by document 02, order 1, and rule 9a by order 4.
 //!
-//! A rule is asked of line `at` in the lines before `end`, the end of the container. It answers
-//! with what it found there, lines being named by their index.
+//! A rule is asked of line `at` of a text, with the ends that it is to heed. It answers with what it
+//! found there, lines being named by their index.
 
-use crate::line::{first_run, is_blank_byte, same_letters, starts_with_letters, Line, Span};
+use crate::closer::Closer;
+use crate::item::item_line;
+use crate::line::{
+    first_run, is_blank_byte, lines_of, same_letters, starts_with_letters, Line, Span,
+};
 use crate::planning::planning_parts;
+
+/// A text as the rules see it.
+pub struct Text<'t> {
+    pub lines: Vec<Line<'t>>,
+    /// The first later line that closes each opener, before the next heading line: the search for it
+    /// is done once, whatever ends it is asked for.
+    closers: Vec<Option<usize>>,
+}
+
+impl<'t> Text<'t> {
+    pub fn new(bytes: &'t [u8]) -> Self {
+        let lines = lines_of(bytes);
+        let closers = (0..lines.len()).map(|at| closer_of(&lines, at)).collect();
+        Text { lines, closers }
+    }
+
+    /// "the first later line before the end" that closes line `at`.
+    fn closer_before(&self, at: usize, end: usize) -> Option<usize> {
+        self.closers[at].filter(|closer| *closer < end)
+    }
+}
+
+fn closer_of(lines: &[Line], at: usize) -> Option<usize> {
+    let closer = Closer::of(&lines[at])?;
+    let later = lines[at + 1..].iter().take_while(|line| !line.is_heading());
+    let distance = later.enumerate().find(|(_, line)| closer.is(line))?.0;
+    Some(at + 1 + distance)
+}
+
+/// The lines where elements end.
+#[derive(Clone, Copy, Debug)]
+pub struct Ends {
+    /// The end of the container: a section, drawer, greater block or item.
+    pub container: usize,
+    /// "the end of the section, block or drawer around its lists", up to which a closer within an
+    /// item is sought (order 4). Outside of lists it is the container's.
+    pub around_lists: usize,
+}
+
+impl Ends {
+    /// The ends in a section, drawer or greater block.
+    pub fn at(end: usize) -> Self {
+        Ends {
+            container: end,
+            around_lists: end,
+        }
+    }
+}
 
 /// The element that starts at a line.
 #[derive(Clone, Copy, Debug)]
@@ -19,6 +71,7 @@ pub enum Element {
     FixedWidth { end: usize },
     HorizontalRule,
     Keyword { value: Span },
+    List,
     Paragraph { end: usize },
 }
 
@@ -30,43 +83,52 @@ pub struct NodeProperty<'t> {
 }
 
 /// "the first of these that holds at a non-blank line names the element".
-pub fn element_at(lines: &[Line], at: usize, end: usize) -> Element {
-    if is_planning_line(lines, at) {
+pub fn element_at(text: &Text, at: usize, ends: Ends) -> Element {
+    if is_planning_line(&text.lines, at) {
         return Element::Planning;
     }
-    if let Some(closer) = property_drawer_closer(lines, at, end) {
+    if let Some(closer) = property_drawer_closer(text, at, ends) {
         return Element::PropertyDrawer { closer };
     }
-    rules_3_to_9(lines, at, end).unwrap_or_else(|| Element::Paragraph {
-        end: paragraph_end(lines, at, end),
+    rules_3_to_9a(text, at, ends).unwrap_or_else(|| Element::Paragraph {
+        end: paragraph_end(text, at, ends),
     })
 }
 
-fn rules_3_to_9(lines: &[Line], at: usize, end: usize) -> Option<Element> {
-    let line = &lines[at];
-    if let Some(block) = block(lines, at, end) {
+fn rules_3_to_9a(text: &Text, at: usize, ends: Ends) -> Option<Element> {
+    rules_3_to_5(text, at, ends).or_else(|| rules_6_to_9a(&text.lines, at, ends))
+}
+
+/// Blocks, drawers and tables: what may reach beyond a line that would end the item around it.
+pub fn rules_3_to_5(text: &Text, at: usize, ends: Ends) -> Option<Element> {
+    if let Some(block) = block(text, at, ends) {
         return Some(block);
     }
-    if let Some(closer) = drawer_closer(lines, at, end) {
+    if let Some(closer) = drawer_closer(text, at, ends) {
         return Some(Element::Drawer { closer });
     }
-    if is_row_line(line) {
-        return Some(table(lines, at, end));
-    }
+    is_row_line(&text.lines[at]).then(|| table(&text.lines, at, ends))
+}
+
+fn rules_6_to_9a(lines: &[Line], at: usize, ends: Ends) -> Option<Element> {
+    let line = &lines[at];
     if is_comment_line(line) {
         return Some(Element::Comment {
-            end: run_end(lines, at, end, is_comment_line),
+            end: run_end(lines, at, ends.container, is_comment_line),
         });
     }
     if is_fixed_width_line(line) {
         return Some(Element::FixedWidth {
-            end: run_end(lines, at, end, is_fixed_width_line),
+            end: run_end(lines, at, ends.container, is_fixed_width_line),
         });
     }
     if is_horizontal_rule(line) {
         return Some(Element::HorizontalRule);
     }
-    keyword_value(line).map(|value| Element::Keyword { value })
+    if let Some(value) = keyword_value(line) {
+        return Some(Element::Keyword { value });
+    }
+    item_line(line).map(|_| Element::List)
 }
 
 /// Rule 1: "only on the line right after a heading line", and by order 1 "dates all through".
@@ -80,11 +142,12 @@ fn is_right_after_heading(lines: &[Line], at: usize) -> bool {
 
 /// Rule 2: "Body `:PROPERTIES:`, then node property lines only (none is allowed), then body
 /// `:END:`. The first end line closes."
-fn property_drawer_closer(lines: &[Line], at: usize, end: usize) -> Option<usize> {
+fn property_drawer_closer(text: &Text, at: usize, ends: Ends) -> Option<usize> {
+    let lines = &text.lines;
     if !is_property_drawer_opener(&lines[at]) || !is_property_drawer_place(lines, at) {
         return None;
     }
-    let closer = first_end_line(lines, at + 1, end)?;
+    let closer = text.closer_before(at, ends.container)?;
     let between = &lines[at + 1..closer];
     let only_properties = between.iter().all(|line| node_property(line).is_some());
     only_properties.then_some(closer)
@@ -132,11 +195,6 @@ pub fn node_property<'t>(line: &Line<'t>) -> Option<NodeProperty<'t>> {
     })
 }
 
-/// The first line from `from` on, before `end`, whose body is `:END:`.
-fn first_end_line(lines: &[Line], from: usize, end: usize) -> Option<usize> {
-    (from..end).find(|index| is_end_line(&lines[*index]))
-}
-
 pub fn is_end_line(line: &Line) -> bool {
     same_letters(line.body, b":END:")
 }
@@ -144,9 +202,9 @@ pub fn is_end_line(line: &Line) -> bool {
 /// Rule 3: "body `#+begin_NAME`, alone or with blank bytes and parameters. [..] It closes at the
 /// first later line before the end whose body is `#+end_NAME`, case ignored. With no such line it
 /// is no block."
-fn block(lines: &[Line], at: usize, end: usize) -> Option<Element> {
-    let name = block_name(&lines[at])?;
-    let closer = (at + 1..end).find(|index| is_block_closer(&lines[*index], name))?;
+fn block(text: &Text, at: usize, ends: Ends) -> Option<Element> {
+    let name = block_name(&text.lines[at])?;
+    let closer = text.closer_before(at, ends.around_lists)?;
     Some(match verbatim_detail(name) {
         Some(detail) => Element::VerbatimBlock { closer, detail },
         None => Element::GreaterBlock {
@@ -198,11 +256,11 @@ fn greater_detail(name: &[u8]) -> u32 {
 }
 
 /// Rule 4: "closes at the first later `:END:` line before the end, else it is no drawer."
-fn drawer_closer(lines: &[Line], at: usize, end: usize) -> Option<usize> {
-    if !is_drawer_opener(&lines[at]) {
+fn drawer_closer(text: &Text, at: usize, ends: Ends) -> Option<usize> {
+    if !is_drawer_opener(&text.lines[at]) {
         return None;
     }
-    first_end_line(lines, at + 1, end)
+    text.closer_before(at, ends.around_lists)
 }
 
 /// Rule 4: "body `:NAME:`, NAME one or more letters, digits, `-`, `_`, not `END`".
@@ -219,12 +277,12 @@ fn is_drawer_byte(byte: u8) -> bool {
 }
 
 /// Rule 5: "lines whose body starts with `|`; lines right after whose body starts with `#+TBLFM:`
-/// belong to it."
-fn table(lines: &[Line], at: usize, end: usize) -> Element {
-    let rows_end = run_end(lines, at, end, is_row_line);
+/// belong to it." Of a table within an item only the first line has to be in it.
+fn table(lines: &[Line], at: usize, ends: Ends) -> Element {
+    let rows_end = run_end(lines, at, ends.around_lists, is_row_line);
     Element::Table {
         rows_end,
-        end: run_end(lines, rows_end, end, is_formula_line),
+        end: run_end(lines, rows_end, ends.around_lists, is_formula_line),
     }
 }
 
@@ -278,9 +336,12 @@ fn keyword_value(line: &Line) -> Option<Span> {
     (key > 0).then(|| line.value_after(b"#+".len() + key + b":".len()))
 }
 
-/// Rule 10: "this line, up to a blank line, the end, or a line where one of 3 to 9 holds."
-fn paragraph_end(lines: &[Line], at: usize, end: usize) -> usize {
-    let stops =
-        |index: &usize| lines[*index].is_blank() || rules_3_to_9(lines, *index, end).is_some();
+/// Rule 10: "this line, up to a blank line, the end, or a line where one of 3 to 9 holds"; order 4:
+/// "an item line ends a paragraph".
+pub fn paragraph_end(text: &Text, at: usize, ends: Ends) -> usize {
+    let stops = |index: &usize| {
+        text.lines[*index].is_blank() || rules_3_to_9a(text, *index, ends).is_some()
+    };
+    let end = ends.container;
     (at + 1..end).find(stops).unwrap_or(end)
 }

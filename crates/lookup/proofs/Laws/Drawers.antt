@@ -18,7 +18,8 @@ use Rattle.text.proofs.Laws.Lines.{size-headLine, size-take-mono, leading-zero}
 use Rattle.text.proofs.Laws.LinesIn.{lineIn-to, within-linesIn, nextLine-from, nextLine-to}
 use Rattle.rules.specs.Headings.{isHeading}
 use Rattle.rules.specs.Kind
-use Rattle.rules.specs.Elements.{Found, found, isSome, propertiesBefore, propertyDrawer}
+use Rattle.rules.specs.Elements.{Found, found, propertiesBefore, propertyDrawer}
+use Rattle.rules.specs.Items.{isSome}
 use Rattle.rules.specs.LineTests.{isPlanning, isPropertiesLine, isEndLine, isNodeProperty}
 use Rattle.rules.specs.declared.place.Place.the-variants.{AfterHeading, AfterPlanning}
 use Rattle.rules.specs.Places.{placeAt, allowsProperties}

@@ -9,10 +9,10 @@ use Prim.Native.Nat.{ℕ, _≤_}
 use native.Mathlib.Omega.{arith}
 use lib.Dec.{T, eqb, leb, ltb, leb→le, ltb→lt, eqb→eq}
 use borrow.Table.Steps.{cases}
-use borrow.Author.Tests.{eqb-true, le-leb}
+use borrow.Author.Tests.{eqb-true, ne-eqb, le-leb}
 use Rattle.rules.specs.Kind
 use Rattle.rules.specs.Kind.{Inner, wholeSpan, afterLine, linesBetween, sameInner, Children, sameChildren, KindRow, kinds, noKind, kindAmong}
-use Rattle.rules.specs.Kind.{kindOf, innerOf, decided, holdsSections, holdsElements, isHolder, countsDepth}
+use Rattle.rules.specs.Kind.{kindOf, innerOf, decided, holdsSections, holdsElements, isHolder, countsDepth, isBound, isRun}
 
 -- ---- rules of the rows
 
@@ -95,12 +95,17 @@ module _ (k : ℕ) where
   unfolding holdsElements
   elements-no-table h e = rw e at h
 
+  pub elements-no-list : T (holdsElements k) → k ≡ Kind.list → ⊥
+  unfolding holdsElements
+  elements-no-list h e = rw e at h
+
   -- what a holder holds
   pub data Holds : Type 0 where
     sections : T (holdsSections k) → Holds
     elements : T (holdsElements k) → Holds
     properties : k ≡ Kind.propertyDrawer → Holds
     rows : k ≡ Kind.table → Holds
+    items : k ≡ Kind.list → Holds
 
   pub holder-holds : T (isHolder k) → Holds
   unfolding isHolder holdsSections holdsElements
@@ -112,15 +117,26 @@ module _ (k : ℕ) where
       go Kind.elements e = elements (rw e tt)
       go Kind.properties e = properties (only (holds Kind.properties) Kind.propertyDrawer refl refl (rw e tt))
       go Kind.rows e = rows (only (holds Kind.rows) Kind.table refl refl (rw e tt))
+      go Kind.items e = items (only (holds Kind.items) Kind.list refl refl (rw e tt))
 
-  -- a holder from kind 4 on is a table, or holds the lines between its first and its last
-  pub holder-inner : Kind.planning ≤ k → T (isHolder k) → (k ≡ Kind.table) ⊎ (innerOf k ≡ linesBetween)
+  -- a holder from kind 4 on is a table, a list or an item, or holds the lines between its first and its last
+  pub data HolderInner : Type 0 where
+    isTable : k ≡ Kind.table → HolderInner
+    isList : k ≡ Kind.list → HolderInner
+    isItem : k ≡ Kind.item → HolderInner
+    isBetween : innerOf k ≡ linesBetween → HolderInner
+
+  pub holder-inner : Kind.planning ≤ k → T (isHolder k) → HolderInner
   unfolding isHolder innerOf
   holder-inner low h =
-      let i = rule holder (λ n x. leb Kind.planning n ⇒ (eqb n Kind.table || spans linesBetween n x)) refl refl h in
+      let i = rule holder (λ n x. leb Kind.planning n ⇒ (eqb n Kind.table || eqb n Kind.list || eqb n Kind.item || spans linesBetween n x)) refl refl h in
       cases (eqb k Kind.table)
-      (λ e. inl (eqb-true k Kind.table e))
-      (λ e. inr (decided-yes (sameInner (innerOf k) linesBetween) (rw (le-leb Kind.planning k low, e) at i)))
+      (λ e. isTable (eqb-true k Kind.table e))
+      (λ e. cases (eqb k Kind.list)
+      (λ d. isList (eqb-true k Kind.list d))
+      (λ d. cases (eqb k Kind.item)
+      (λ c. isItem (eqb-true k Kind.item c))
+      (λ c. isBetween (decided-yes (sameInner (innerOf k) linesBetween) (rw (le-leb Kind.planning k low, e, d, c) at i)))))
 
   -- from kind 4 on no inner span is the whole span, or all of it after its first line
   pub inner-late : Kind.planning ≤ k → (innerOf k ≡ wholeSpan) ⊎ (innerOf k ≡ afterLine) → ⊥
@@ -129,29 +145,59 @@ module _ (k : ℕ) where
       let early = rule (λ n x. spans wholeSpan n x || spans afterLine n x) (λ n x. ltb n Kind.planning) refl refl in
       omega (arith, ltb→lt k Kind.planning (early (⊎-elim (λ e. rw e tt) (λ e. rw e tt) o)))
 
-  -- ---- depth
+  -- ---- bounds and runs
 
-  pub counts-elements : T (countsDepth k) → T (holdsElements k)
-  unfolding countsDepth holdsElements
-  counts-elements = rule deep (holds Kind.elements) refl refl
+  -- what holds elements is a bound or an item
+  pub elements-bound : T (holdsElements k) → T (isBound k) ⊎ (k ≡ Kind.item)
+  unfolding isBound
+  elements-bound h = cases (holdsElements k)
+      (λ e. cases (eqb k Kind.item) (λ i. inr (eqb-true k Kind.item i)) (λ i. inl (rw (e, i) tt)))
+      (λ e. absurd (rw e at h))
 
-  pub counts-between : T (countsDepth k) → innerOf k ≡ linesBetween
-  unfolding countsDepth innerOf
-  counts-between h = decided-yes (sameInner (innerOf k) linesBetween) (rule deep (spans linesBetween) refl refl h)
+  pub bound-elements : T (isBound k) → T (holdsElements k)
+  unfolding isBound
+  bound-elements h = cases (holdsElements k) (λ e. rw e tt) (λ e. absurd (rw e at h))
 
-  pub isHolder-no : Kind.planning ≤ k → countsDepth k ≡ false → eqb k Kind.table ≡ false → eqb k Kind.propertyDrawer ≡ false → isHolder k ≡ false
-  unfolding isHolder countsDepth
-  isHolder-no low d t p = cases (isHolder k)
-      (λ e. absurd (rw (le-leb Kind.planning k low, d, t, p) at
-      (rule holder (λ n x. leb Kind.planning n ⇒ (deep n x || eqb n Kind.table || eqb n Kind.propertyDrawer)) refl refl (rw e tt))))
+  pub bound-between : Kind.planning ≤ k → T (isBound k) → innerOf k ≡ linesBetween
+  unfolding isBound holdsElements innerOf
+  bound-between low h =
+      decided-yes (sameInner (innerOf k) linesBetween) (rw (le-leb Kind.planning k low) at
+      (rule (λ n x. holds Kind.elements n x && not (eqb n Kind.item)) (λ n x. leb Kind.planning n ⇒ spans linesBetween n x) refl refl h))
+
+  pub holder-no-run : T (isHolder k) → isRun k ≡ false
+  unfolding isHolder isRun
+  holder-no-run h = cases (isRun k)
+      (λ e. absurd (rw e at (rule holder (λ n x. not (isRun n)) refl refl h)))
       (λ e. e)
 
-  pub countsDepth-is : countsDepth k ≡ (eqb k Kind.drawer || eqb k Kind.greaterBlock)
+  -- ---- depth
+
+  -- what counts for depth is a list, or holds elements between its first line and its last
+  pub counts-elements : T (countsDepth k) → (k ≡ Kind.list → ⊥) → T (holdsElements k)
+  unfolding countsDepth holdsElements
+  counts-elements h n = rw (ne-eqb k Kind.list n) at (rule deep (λ n x. eqb n Kind.list || holds Kind.elements n x) refl refl h)
+
+  pub counts-between : T (countsDepth k) → (k ≡ Kind.list → ⊥) → innerOf k ≡ linesBetween
+  unfolding countsDepth innerOf
+  counts-between h n =
+      decided-yes (sameInner (innerOf k) linesBetween) (rw (ne-eqb k Kind.list n) at (rule deep (λ n x. eqb n Kind.list || spans linesBetween n x) refl refl h))
+
+  pub isHolder-no : Kind.planning ≤ k → countsDepth k ≡ false → eqb k Kind.table ≡ false → eqb k Kind.propertyDrawer ≡ false → eqb k Kind.item ≡ false
+      → isHolder k ≡ false
+  unfolding isHolder countsDepth
+  isHolder-no low d t p i = cases (isHolder k)
+      (λ e. absurd (rw (le-leb Kind.planning k low, d, t, p, i) at
+      (rule holder (λ n x. leb Kind.planning n ⇒ (deep n x || eqb n Kind.table || eqb n Kind.propertyDrawer || eqb n Kind.item)) refl refl (rw e tt))))
+      (λ e. e)
+
+  pub countsDepth-is : countsDepth k ≡ (eqb k Kind.drawer || eqb k Kind.greaterBlock || eqb k Kind.list)
   unfolding countsDepth
   countsDepth-is = cases (eqb k Kind.drawer)
       (λ e. rw e (rw (eqb-true k Kind.drawer e)))
       (λ e. cases (eqb k Kind.greaterBlock)
       (λ i. rw (e, i) (rw (eqb-true k Kind.greaterBlock i)))
-      (λ i. rw (e, i) (cases (countsDepth k)
-      (λ d. absurd (rw (e, i) at (rule deep (λ n x. eqb n Kind.drawer || eqb n Kind.greaterBlock) refl refl (rw d tt))))
-      (λ d. d))))
+      (λ i. cases (eqb k Kind.list)
+      (λ j. rw (e, i, j) (rw (eqb-true k Kind.list j)))
+      (λ j. rw (e, i, j) (cases (countsDepth k)
+      (λ d. absurd (rw (e, i, j) at (rule deep (λ n x. eqb n Kind.drawer || eqb n Kind.greaterBlock || eqb n Kind.list) refl refl (rw d tt))))
+      (λ d. d)))))

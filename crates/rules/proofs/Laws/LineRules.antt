@@ -3,7 +3,7 @@
 use mathlib.Core.Path.{_≡_, refl}
 use mathlib.Core.Bool.{Bool, true, false, _&&_, and-false}
 use mathlib.Core.List.{List, [], _∷_, _++_}
-use mathlib.Core.Option.{Option, none, some, Option·map}
+use mathlib.Core.Option.{Option, none, some, Option·map, Option·getD}
 use Prim.Native.Nat.{ℕ, suc, _+_, _≤_, _<_}
 use native.Mathlib.Omega.{arith}
 use lib.Dec.{eqb}
@@ -22,8 +22,8 @@ use Rattle.rules.specs.declared.place.Place.{Place}
 use Rattle.rules.specs.Places.{allowsProperties}
 use Rattle.rules.specs.Elements.{Found, found, LineRule, rule, when, planning, propertiesBefore, propertyDrawer, linesBefore}
 use Rattle.rules.specs.Elements.{verbatimNames, greaterDetail, blockOf, block, drawer, lineAnd, rowLines, table, comment, fixedWidth, horizontalRule, keyword}
-use Rattle.rules.specs.Elements.{rules3to9, rules1to9}
-use Rattle.rules.specs.Kind.{Inner, wholeSpan, afterLine, lineBody, linesBetween, propertyValue, keywordValue, rowsOnly, ownLines, innerOf}
+use Rattle.rules.specs.Elements.{firstOf, rules3to9, rules1to9}
+use Rattle.rules.specs.Kind.{Inner, wholeSpan, afterLine, lineBody, linesBetween, propertyValue, keywordValue, rowsOnly, ownLines, itemLeft, innerOf}
 use Rattle.rules.specs.declared.closer.Closer.the-variants.{At}
 use Rattle.rules.specs.Findings.{closerAt, isIn}
 use Rattle.rules.proofs.Basics.{or-no, All, all-nil, all-cons, all-map}
@@ -43,6 +43,21 @@ if-when P false f h = tt
 pub when-no : (b : Bool) (f : Found) → b ≡ false → when b f ≡ none
 unfolding when
 when-no b f h = rw (h, when)
+
+module _ (P : Found → Type 0) (ls : List Line) where
+  -- the first rule that holds is one of them
+  pub if-first : {rs : List LineRule} → All (λ r. If P (r .finds ls)) rs → If P (firstOf rs ls)
+  unfolding firstOf
+  if-first all-nil = tt
+  if-first (all-cons {a = r} {x = rs} h hs) = go (r .finds ls) h (if-first hs)
+    where
+      go : (o : Option Found) → If P o → If P (firstOf rs ls) → If P (elim o [ none ↦ firstOf rs ls | some f ↦ some f ])
+      go none h k = k
+      go (some f) h k = h
+
+  pub if-default : (o : Option Found) (f : Found) → If P o → P f → P (Option·getD o f)
+  if-default none f x y = y
+  if-default (some g) f x y = x
 
 -- ---- closers
 
@@ -112,6 +127,7 @@ leastLines propertyValue ls = 1
 leastLines keywordValue ls = 1
 leastLines rowsOnly ls = rowLines ls
 leastLines ownLines ls = 1
+leastLines itemLeft ls = 1
 
 -- a closer is one of the lines
 abbrev pub Closed : Inner → List Line → ℕ → Type 0
@@ -123,6 +139,7 @@ Closed propertyValue ls n = Unit {0}
 Closed keywordValue ls n = Unit {0}
 Closed rowsOnly ls n = Unit {0}
 Closed ownLines ls n = Unit {0}
+Closed itemLeft ls n = Unit {0}
 
 -- of every rule: an element of kind 4 to the last, with as many lines as its inner span asks, and no more than there are
 pub record Fine (ls : List Line) (f : Found) : Type 0 where
@@ -134,10 +151,11 @@ pub record Fine (ls : List Line) (f : Found) : Type 0 where
   pub least : leastLines (innerOf (f .kind)) ls ≤ f .own
   pub closed : Closed (innerOf (f .kind)) ls (f .own)
 
--- of rules 3 to 10: no planning line, no property drawer, and a comment only where a comment line stands
+-- of rules 3 to 9: no planning line, no property drawer, no list, and a comment only where a comment line stands
 pub record Later (ls : List Line) (f : Found) : Type 0 where
   pub fine : Fine ls f
   pub later : Kind.drawer ≤ f .kind
+  pub earlier : f .kind ≤ Kind.keyword
   pub comment : f .kind ≡ Kind.comment → isComment (headLine ls) ≡ true
 
 numberIn-le : (ws : List (List ℕ)) (n : ℕ) (x : List ℕ) → numberIn ws (suc n) x ≤ n + length ws
@@ -164,7 +182,7 @@ pub record Lawful (ls : List Line) (r : LineRule) : Type 0 where
   pub other : isIn (firstAt ls) (r .wants) ≡ false → r .finds ls ≡ none
   pub found : If (Later ls) (r .finds ls)
 
--- what holds of all that rules 3 to 10 find
+-- what holds of all that rules 3 to 9 find
 pub lawful-found : (P : Found → Type 0) (ls : List Line) (r : LineRule) → ((f : Found) → Later ls f → P f) → Lawful ls r → If P (r .finds ls)
 lawful-found P ls r h l = go (r .finds ls) (l .found)
   where
@@ -177,7 +195,7 @@ module _ (ls : List Line) where
   x = body (headLine ls)
 
   -- a planning line begins with a keyword
-  isPlanning-other : isIn (firstAt ls) (word "cds") ≡ false → isPlanning (headLine ls) ≡ false
+  pub isPlanning-other : isIn (firstAt ls) (word "cds") ≡ false → isPlanning (headLine ls) ≡ false
   unfolding isPlanning word isEmpty lower isIn
   isPlanning-other h =
       let c = or-no _ _ h in
@@ -219,19 +237,23 @@ module _ (ls : List Line) where
         (λ e. rw (e, propertyDrawer) tt)
 
   -- what a rule with a test finds
-  when-found : (b : Bool) (k n : ℕ) → Fine ls (found k n 0) → Kind.drawer ≤ k → (b ≡ true → k ≡ Kind.comment → isComment (headLine ls) ≡ true)
-      → If (Later ls) (when b (found k n 0))
-  when-found b k n h i j = if-when (Later ls) b (found k n 0) (λ e. record { fine = h; later = i; comment = j e })
+  when-found : (b : Bool) (k n : ℕ) → Fine ls (found k n 0) → (Kind.drawer ≤ k) × (k ≤ Kind.keyword)
+      → (b ≡ true → k ≡ Kind.comment → isComment (headLine ls) ≡ true) → If (Later ls) (when b (found k n 0))
+  when-found b k n h i j = if-when (Later ls) b (found k n 0) (λ e. record { fine = h; later = i .0; earlier = i .1; comment = j e })
 
   -- rule 3
+
+  -- a drawer or a block
+  closed-later : (f : Found) → Fine ls f → (Kind.drawer ≤ f .kind) × (f .kind ≤ Kind.verbatimBlock) → Later ls f
+  closed-later f h i = record { fine = h; later = i .0; earlier = omega arith; comment = λ c. absurd (omega arith) }
 
   blockOf-later : (name : List ℕ) (n : ℕ) → n + 2 ≤ length ls → Later ls (blockOf name (n + 2))
   unfolding blockOf innerOf verbatimNames
   blockOf-later name n h = cases (eqb (numberIn verbatimNames 1 name) 0)
-      (λ e. rw (e, blockOf) (record { fine = omega (arith, all-length ls, greaterDetail-le name); later = omega arith; comment = λ c. absurd (omega arith) }))
-      (λ e. rw (e, blockOf) (record { fine = omega (arith, all-length ls, numberIn-le verbatimNames 0 name); later = omega arith; comment = λ c. absurd (omega arith) }))
+      (λ e. rw (e, blockOf) (closed-later _ (omega (arith, all-length ls, greaterDetail-le name)) (omega arith)))
+      (λ e. rw (e, blockOf) (closed-later _ (omega (arith, all-length ls, numberIn-le verbatimNames 0 name)) (omega arith)))
 
-  block-lawful : Lawful ls (rule (word "#") block)
+  pub block-lawful : Lawful ls (rule (word "#") block)
   unfolding block blockName word isEmpty lower
   block-lawful =
       let name = blockName (headLine ls) in
@@ -244,13 +266,13 @@ module _ (ls : List Line) where
 
   -- rule 4
 
-  drawer-lawful : Lawful ls (rule (word ":") drawer)
+  pub drawer-lawful : Lawful ls (rule (word ":") drawer)
   unfolding drawer isDrawerLine isEmpty word innerOf
   drawer-lawful = record {
     other = λ h. rw (betweenColons-other x (one-other _ 58 h), drawer);
     found = cases (isDrawerLine (headLine ls))
         (λ e. rw (e, drawer) (if-lines (Later ls) ls (λ n. found Kind.drawer (n + 2) 0) (word ":end:")
-        (λ n h. record { fine = omega (arith, all-length ls); later = omega arith; comment = λ c. absurd (omega arith) })))
+        (λ n h. closed-later _ (omega (arith, all-length ls)) (omega arith))))
         (λ e. rw (e, drawer) tt);
   }
 
@@ -266,7 +288,7 @@ module _ (ls : List Line) where
     length-drop (rowLines ls) ls,
   )
 
-  table-lawful : Lawful ls (rule (word "|") table)
+  pub table-lawful : Lawful ls (rule (word "|") table)
   unfolding table isRow rowLines lineAnd word isEmpty lower innerOf
   table-lawful = record {
     other = λ h. when-no _ _ (begins-other (word "|") x refl (one-other _ 124 h));

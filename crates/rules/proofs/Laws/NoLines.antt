@@ -3,7 +3,7 @@
 use mathlib.Core.Path.{_≡_, sym, ap, _∙_}
 use mathlib.Core.Bool.{Bool, true, true≢false}
 use mathlib.Core.List.{List, [], _∷_}
-use mathlib.Core.Option.{none, map-eq-none-iff}
+use mathlib.Core.Option.{Option, none, map-eq-none-iff}
 use Prim.Native.Nat.{ℕ, zero, suc, _+_}
 use native.Mathlib.Omega.{arith}
 use lib.ListN.{length, take, drop}
@@ -16,9 +16,11 @@ use Rattle.text.proofs.Laws.Lines.{size-headLine}
 use Rattle.text.proofs.Laws.LinesIn.{linesIn-drop}
 use Rattle.rules.specs.Elements.{Found, linesBefore}
 use Rattle.rules.specs.Known.{NoLine, anyName, Knows}
-use Rattle.rules.specs.Findings.{LineOf, spanned}
+use Rattle.rules.specs.Findings.{LineOf, spanned, ruleAt}
 use Rattle.rules.specs.declared.rule.Element.{Element}
+use Rattle.rules.specs.declared.rule.Rule.the-variants.{Holds}
 use Rattle.rules.proofs.Laws.LineOf.{lineOf-end}
+use Rattle.rules.proofs.Laws.FirstOf.{ruleAt-holds}
 use Rattle.rules.proofs.Laws.Known.{hasName-any}
 
 linesBefore-drop : (x : List ℕ) (n : ℕ) (ls : List Line) → linesBefore x ls ≡ none → linesBefore x (drop n ls) ≡ none
@@ -45,6 +47,9 @@ module _ (s : List ℕ) (p e : ℕ) (b : Bool) (m : ℕ) (h : Knows s p e b m) w
   pub knows-element : (f : Found) (x : Element) → x ≡ spanned p (linesIn s p e) f → Knows s (x .end) e b m
   unfolding spanned
   knows-element f x i = rw (ap (λ (y : Element). y .end) i) (knows-more (f .own))
+
+  pub knows-rule : (o : Option Found) (x : Element) → Holds x ≡ ruleAt p (linesIn s p e) o → Knows s (x .end) e b m
+  knows-rule o x i = let (f, j, k) = ruleAt-holds p (linesIn s p e) o x i in knows-element f x k
 
 -- after a line of the text
 pub knows-next : (s : List ℕ) (l : LineSpan) (e : ℕ) (b : Bool) (m : ℕ) → LineOf s l e → Knows s (l .start) e b m → Knows s (l .end) e b m

@@ -11,7 +11,7 @@ use Rattle.rules.specs.Kind.{isHolder}
 use Rattle.rules.proofs.Basics.{All, all-nil, all-cons, all-append}
 use Rattle.table.specs.declared.record.Record.{Record}
 use Rattle.table.specs.Sections.{sectionStart, sectionEnd}
-use Rattle.table.specs.Makers.{documentRecord, elementRecord, lineRecord, childRecord}
+use Rattle.table.specs.Makers.{documentRecord, foundRecord, elementRecord, itemRecord, lineRecord, childRecord}
 use Rattle.table.specs.Reading.{contents, section, headings, reading}
 use Rattle.table.proofs.Basics.{split}
 use Rattle.table.proofs.Laws.Fits.{childRecord-each}
@@ -22,8 +22,8 @@ abbrev Lined : List ℕ → List Record → Type 0
 Lined s R = All (λ (r : Record). r .line ≡ lineNumber s (r .start)) R
 
 childRecord-line : (s : List ℕ) (c : Record) (q p : ℕ) → let r = childRecord s c q p in r .line ≡ lineNumber s (r .start)
-unfolding lineRecord elementRecord
-childRecord-line s c q p = childRecord-each s c q p (λ r. r .line ≡ lineNumber s (r .start)) refl refl (λ h. refl)
+unfolding lineRecord foundRecord elementRecord itemRecord
+childRecord-line s c q p = childRecord-each s c q p (λ r. r .line ≡ lineNumber s (r .start)) refl refl refl (λ h i. refl)
 
 contents-lined : (n : ℕ) (s : List ℕ) (c : Record) (q p k : ℕ) → Lined s (contents n s c q p k)
 unfolding contents

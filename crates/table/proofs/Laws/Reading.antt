@@ -3,7 +3,7 @@
 use mathlib.Core.Path.{_≡_, refl}
 use mathlib.Core.Bool.{true, false}
 use mathlib.Core.List.{List, [], _∷_, _++_}
-use Prim.Native.Nat.{ℕ, zero, suc, _+_, _-_, _≤_, _<_}
+use Prim.Native.Nat.{ℕ, zero, suc, _+_, _-_, _*_, _≤_, _<_}
 use lib.ListN.{length}
 use borrow.Author.Tests.{lt-ltb, le-ltb}
 use Rattle.text.specs.LineNumbers.{lineNumber}
@@ -56,7 +56,7 @@ abbrev pub sectionContents : List ℕ → Record → ℕ → ℕ → List Record
 sectionContents s c q k =
     let a = sectionStart s c in
     let e = sectionEnd s c in
-    contents (suc (e - a)) s (sectionOf s c q) k (firstLine s a e) (suc k)
+    contents (suc (2 * (e - a))) s (sectionOf s c q) k (firstLine s a e) (suc k)
 
 module _ (s : List ℕ) (c : Record) (q k : ℕ) where
   pub section-yes : sectionStart s c < sectionEnd s c → section s c q k ≡ sectionOf s c q ∷ sectionContents s c q k

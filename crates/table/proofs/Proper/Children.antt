@@ -16,15 +16,16 @@ use Rattle.text.specs.Lines.{size}
 use Rattle.text.specs.Parts.{linesIn, firstLine}
 use Rattle.text.proofs.Laws.Lines.{size-take-add}
 use Rattle.text.proofs.Laws.LinesIn.{linesIn-drop}
-use Rattle.rules.specs.Elements.{elementAt}
+use Rattle.rules.specs.FirstRule.{elementAt, itemAt}
+use Rattle.rules.specs.Lists.{item}
 use Rattle.rules.specs.Headings.{isHeading}
 use Rattle.rules.specs.Kind
 use Rattle.rules.specs.Kind.{holdsSections, isHolder}
 use Rattle.rules.specs.Places.{placeAt}
 use Rattle.rules.proofs.Laws.Elements.{fine-element}
-use Rattle.rules.proofs.Laws.Kind.{Holds, sections, elements, properties, rows, holder-holds}
+use Rattle.rules.proofs.Laws.Kind.{Holds, sections, elements, properties, rows, items, holder-holds}
 use Rattle.rules.proofs.Basics.{All, all-nil, all-cons, all-map}
-use Rattle.table.specs.Proper.{withParent, children, Tiled, IsHeadingRecord, IsSectionRecord, IsTopRecord, IsElementRecord, IsLineRecord, Proper}
+use Rattle.table.specs.Proper.{withParent, children, Tiled, IsHeadingRecord, IsSectionRecord, IsTopRecord, HasFound, IsElementRecord, IsItemRecord, IsLineRecord, Proper}
 use Rattle.table.specs.Records.{at, up}
 use Rattle.table.specs.Sections.{lineAt}
 use Rattle.table.proofs.Basics.{on, split}
@@ -233,7 +234,7 @@ module _ (s : List ℕ) (R : List Record) (h : Proper s R) where
 
   -- what is no element stands in a document or heading
   in-top : (k : ℕ) → 0 < k → k < length R → (at R k) .kind < Kind.planning → T (holdsSections ((up R k) .kind))
-  unfolding IsElementRecord IsLineRecord elementAt
+  unfolding HasFound IsElementRecord IsItemRecord IsLineRecord elementAt itemAt item
   in-top k a b low = go (holder-holds ((up R k) .kind) (h .holders k a b))
     where
       r : Record
@@ -247,6 +248,7 @@ module _ (s : List ℕ) (R : List Record) (h : Proper s R) where
       go (elements i) = absurd (omega (arith, h .elements k a b i .kind, fine-element (linesIn s (r .start) (c .to)) (placeAt s (r .start))))
       go (properties i) = absurd (omega (arith, h .properties k a b i .kind))
       go (rows i) = absurd (omega (arith, h .rows k a b i .kind))
+      go (items i) = absurd (omega (arith, h .items k a b i .kind))
 
   pub heading-record : (k : ℕ) → k < length R → (at R k) .kind ≡ Kind.heading → IsHeadingRecord s (at R k)
   unfolding IsTopRecord IsSectionRecord

@@ -1,5 +1,5 @@
 -- The reading of a text is a proper table: its document, its zeroth section and its headings stand as a proper table asks, and the headings start
--- at the text's heading lines.
+-- at the text's heading lines. Closers in it are sought far enough.
 -- Assumes nothing.
 use mathlib.Core.Path.{_≡_, refl, sym, ap, _∙_}
 use mathlib.Core.Logic.{inl, inr}
@@ -14,6 +14,7 @@ use lib.Seq.{drop-append-seam, drop-cons}
 use borrow.Table.Steps.{cases}
 use Rattle.text.specs.Lines.{Line}
 use Rattle.text.proofs.Laws.LinesIn.{nextLine-to, nextLine-none}
+use Rattle.text.proofs.Laws.LineStarts.{lineStart-zero}
 use Rattle.rules.specs.Headings.{isHeading, isHeadingUpTo}
 use Rattle.rules.specs.Kind.{holdsSections, isHolder}
 use Rattle.rules.proofs.Basics.{all-getD, all-map}
@@ -23,6 +24,7 @@ use Rattle.table.specs.Proper.{withParent, children, headingLines, headi
 use Rattle.table.specs.Reading.{section, nearest, headings, reading}
 use Rattle.table.specs.Records.{noRecord, at}
 use Rattle.table.specs.Sections.{sectionEnd}
+use Rattle.table.specs.Closers.{AllSought}
 use Rattle.table.proofs.Basics.{split}
 use Rattle.table.proofs.Laws.Lines.{reading-lined}
 use Rattle.table.proofs.Laws.Proper.{withParent-no, headingStarts-append, headingStarts-none, headingLinesFrom-zero, headingLinesFrom-next}
@@ -60,11 +62,11 @@ module _ (s : List ℕ) where
 
   top : Top s doc
   unfolding holdsSections
-  top = record { kind = tt; text = omega arith; end = sym (nextLine-none s (isHeadingUpTo 0) 0 (omega arith) upTo-none) }
+  top = record { kind = tt; start = lineStart-zero s; text = omega arith; end = sym (nextLine-none s (isHeadingUpTo 0) 0 (omega arith) upTo-none) }
 
   heads : Heads s [] p k H
   unfolding sectionEnd
-  heads = headings-heads (length s) s [] 0 k (omega arith) (omega arith)
+  heads = headings-heads (length s) s [] 0 k (lineStart-zero s) (omega arith) (omega arith)
 
   -- ---- the records after the document
 
@@ -145,9 +147,14 @@ module _ (s : List ℕ) where
         tiled = filled;
         tops = λ j a b. local j a b .child .top;
         elements = λ j a b. local j a b .child .element;
+        items = λ j a b. local j a b .child .item;
         properties = λ j a b. local j a b .child .property;
         rows = λ j a b. local j a b .child .row;
       }
+
+pub reading-sought : (s : List ℕ) → AllSought s (reading s)
+unfolding reading
+reading-sought s j a b = local s j a b .sought
 
 pub reading-proper : (s : List ℕ) → Proper s (reading s)
 unfolding reading

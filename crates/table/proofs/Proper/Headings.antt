@@ -20,11 +20,12 @@ use Rattle.table.specs.Proper.{withParent, IsHeadingRecord, IsTopRecord,
 use Rattle.table.specs.Reading.{section, nearest}
 use Rattle.table.specs.Records.{at}
 use Rattle.table.specs.Sections.{lineAt, sectionEnd}
+use Rattle.table.specs.Closers.{closersEnd}
 use Rattle.table.proofs.Basics.{on, split}
 use Rattle.table.proofs.Laws.Reading.{Earlier, nearest-here, nearest-skip, starsAt, nextHeading, nextUpTo, headingAt, groupAt}
 use Rattle.table.proofs.Laws.Records.{drop-run, at-head, drop-head}
-use Rattle.table.proofs.Proper.Heads.{Heads, heads-none, heads-step, lineAt-some, starsAt-le, heading-top, group-own, heads-outside}
-use Rattle.table.proofs.Proper.Sections.{Top, InGroup, top-child, section-at, section-after, section-local}
+use Rattle.table.proofs.Proper.Heads.{Begins, Heads, heads-none, heads-step, lineAt-some, starsAt-le, heading-top, group-own, heads-outside}
+use Rattle.table.proofs.Proper.Sections.{Top, InGroup, top-child, top-sought, section-at, section-after, section-local}
 use Rattle.table.proofs.Proper.Stands.{Filled, Inside, Local, stands-local, Placed, placed-first, inside-more}
 use Rattle.table.proofs.Proper.Subheadings.{nextUpTo-next, nextUpTo-past, Open, heads-filled}
 use Rattle.table.specs.declared.record.Record.{Record}
@@ -45,7 +46,7 @@ AllReady s R p k hs = (x : ℕ) → 0 < x → Ready s R p k x (nearest x hs) (at
 
 -- ---- the heading at p, of index k, and the headings H after its section
 
-module _ {s : List ℕ} {hs : Earlier} {p k : ℕ} {H : List Record} (R : List Record) (l : p < length s) (y : isHeading (lineAt s p) ≡ true)
+module _ {s : List ℕ} {hs : Earlier} {p k : ℕ} {H : List Record} (R : List Record) (l : Begins s p) (y : isHeading (lineAt s p) ≡ true)
     (hd : Heads s ((k, starsAt s p) ∷ hs) (nextHeading s p) (suc k + length (groupAt s hs p k)) H)
     (d : drop k R ≡ headingAt s hs p ∷ (groupAt s hs p k ++ H)) (ready : AllReady s R p k hs) where
   abbrev m : ℕ
@@ -92,7 +93,7 @@ module _ {s : List ℕ} {hs : Earlier} {p k : ℕ} {H : List Record} (R : List R
       let wider = nextLine-wider s (isHeadingUpTo n) (isHeadingUpTo m) i (upTo-more n m (omega (arith, own .fewer))) in
       record {
         from = own .from;
-        some = omega (arith, lineAt-some s p l, nextLine-from s (isHeadingUpTo m) i);
+        some = omega (arith, lineAt-some s p (l .inside), nextLine-from s (isHeadingUpTo m) i);
         to = omega (arith, own .to);
       }
 
@@ -107,7 +108,7 @@ module _ {s : List ℕ} {hs : Earlier} {p k : ℕ} {H : List Record} (R : List R
   heading-open : Open s k m (length s) ((k, m) ∷ hs)
   heading-open =
       record {
-        order = starsAt-le s p l;
+        order = starsAt-le s p (l .inside);
         child = λ x a b. nearest-here x k m hs a;
         deep = λ x a b e. omega arith;
         out = λ x z a e. omega (arith, ready x z .before, nearest-skip x k m hs a);
@@ -119,7 +120,7 @@ module _ {s : List ℕ} {hs : Earlier} {p k : ℕ} {H : List Record} (R : List R
 
   local-heading : Local s R k
   local-heading =
-      stands-local at-heading refl
+      stands-local at-heading refl refl
       (record {
         earlier = own .before;
         together = own .inside;
@@ -127,6 +128,7 @@ module _ {s : List ℕ} {hs : Earlier} {p k : ℕ} {H : List Record} (R : List R
         section = λ a. section-after s h top k R H group-here;
         filled = λ a. heading-filled;
         child = top-child s (at R q) h (own .top) heading-within is-top (λ e. absurd (omega arith));
+        sought = top-sought s (closersEnd R q) (at R q) h (own .top);
       })
 
   -- ---- its section

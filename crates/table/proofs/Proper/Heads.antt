@@ -8,7 +8,9 @@ use mathlib.Core.Option.{none}
 use Prim.Native.Nat.{ℕ, zero, suc, _+_, _-_, _≤_, _<_}
 use native.Mathlib.Omega.{arith}
 use lib.ListN.{length}
-use Rattle.text.specs.Parts.{nextLine}
+use Rattle.text.specs.Parts.{linesIn, lineIn, nextLine, LineStart}
+use Rattle.text.proofs.Laws.Lines.{size-headLine}
+use Rattle.text.proofs.Laws.LineStarts.{lineStart-more, lineStart-next}
 use Rattle.text.proofs.Laws.LinesIn.{lineIn-to, lineIn-some, nextLine-from, nextLine-to, nextLine-passes}
 use Rattle.rules.specs.Headings.{isHeading}
 use Rattle.rules.specs.Kind.{holdsSections}
@@ -25,10 +27,15 @@ use Rattle.table.proofs.Proper.Sections.{Top, InGroup, section-own}
 use Rattle.table.proofs.Proper.Stands.{Outside}
 use Rattle.table.specs.declared.record.Record.{Record}
 
+-- a line starts at byte p
+pub record Begins (s : List ℕ) (p : ℕ) : Type 0 where
+  pub inside : p < length s
+  pub start : LineStart s p
+
 -- the headings from byte p on: the first has index k, and hs are the headings before it
 pub data Heads (s : List ℕ) : Earlier → ℕ → ℕ → List Record → Type 0 where
   heads-none : {hs : Earlier} {p k : ℕ} → p ≡ length s → Heads s hs p k []
-  heads-step : {hs : Earlier} {p k : ℕ} {H : List Record} → p < length s → isHeading (lineAt s p) ≡ true
+  heads-step : {hs : Earlier} {p k : ℕ} {H : List Record} → Begins s p → isHeading (lineAt s p) ≡ true
       → Heads s ((k, starsAt s p) ∷ hs) (nextHeading s p) (suc k + length (groupAt s hs p k)) H
       → Heads s hs p k (headingAt s hs p ∷ (groupAt s hs p k ++ H))
 
@@ -44,9 +51,14 @@ module _ (s : List ℕ) (p : ℕ) (l : p < length s) where
   pub starsAt-le : starsAt s p ≤ length s
   starsAt-le = omega (arith, stars-le (lineAt s p), lineAt-to)
 
+module _ (s : List ℕ) (p : ℕ) (l : Begins s p) where
+  lineAt-start : LineStart s (p + length (lineAt s p))
+  unfolding lineIn
+  lineAt-start = rw (size-headLine (linesIn s p (length s))) (lineStart-more s p (l .start) 1)
+
   pub heading-top : (hs : Earlier) → Top s (headingAt s hs p)
   unfolding holdsSections
-  heading-top hs = record { kind = tt; text = lineAt-to; end = refl }
+  heading-top hs = record { kind = tt; start = lineAt-start; text = lineAt-to s p (l .inside); end = refl }
 
   pub group-own : (hs : Earlier) (k : ℕ) → All (InGroup k) (groupAt s hs p k)
   group-own hs k = section-own s (headingAt s hs p) (heading-top hs) k
@@ -57,16 +69,18 @@ heads-end : (n : ℕ) (s : List ℕ) (hs : Earlier) (p k : ℕ) → p ≤ length
 heads-end n s hs p k a b = rw (headings-none n s hs p k b) (heads-none {p = p} (omega arith))
 
 -- from the first heading line at or after byte b on
-pub headings-heads : (n : ℕ) (s : List ℕ) (hs : Earlier) (b k : ℕ) → b ≤ length s → length s - b ≤ n
+pub headings-heads : (n : ℕ) (s : List ℕ) (hs : Earlier) (b k : ℕ) → LineStart s b → b ≤ length s → length s - b ≤ n
     → let p = nextLine isHeading s b in Heads s hs p k (headings n s hs p k)
-headings-heads zero s hs b k h c = heads-end zero s hs _ k (nextLine-to s isHeading b h) (omega (arith, nextLine-from s isHeading b))
-headings-heads (suc n) s hs b k h c =
+headings-heads zero s hs b k start h c = heads-end zero s hs _ k (nextLine-to s isHeading b h) (omega (arith, nextLine-from s isHeading b))
+headings-heads (suc n) s hs b k start h c =
     let p = nextLine isHeading s b in
     let i = p + length (lineAt s p) in
     split p (length s)
-    (λ l. rw (headings-step n s hs p k l)
-    (heads-step l (nextLine-passes s isHeading b h l)
-    (headings-heads n s ((k, starsAt s p) ∷ hs) i _ (lineAt-to s p l) (omega (arith, nextLine-from s isHeading b, lineAt-some s p l)))))
+    (λ l. let begins : Begins s p = record { inside = l; start = lineStart-next s b start isHeading } in
+    rw (headings-step n s hs p k l)
+    (heads-step begins (nextLine-passes s isHeading b h l)
+    (headings-heads n s ((k, starsAt s p) ∷ hs) i _ (lineAt-start s p begins) (lineAt-to s p l)
+    (omega (arith, nextLine-from s isHeading b, lineAt-some s p l)))))
     (heads-end (suc n) s hs p k (nextLine-to s isHeading b h))
 
 -- ---- they start at the text's heading lines
@@ -77,7 +91,7 @@ heads-starts {s = s} (heads-none e) = rw e (sym (headingLinesFrom-end s))
 heads-starts {s = s} {hs = hs} {p = p} {k = k} (heads-step {H = H} l y hd) =
     let none = headingStarts-none (all-map (λ r o e. omega arith) (group-own s p l hs k)) in
     rw (headingStarts-append (groupAt s hs p k) H, none, heads-starts hd)
-    (sym (rw (headingLinesFrom-here s p l y, headingLinesFrom-next s (p + length (lineAt s p)))))
+    (sym (rw (headingLinesFrom-here s p (l .inside) y, headingLinesFrom-next s (p + length (lineAt s p)))))
 
 -- ---- their parents
 

@@ -3,16 +3,17 @@
 use mathlib.Core.Path.{_≡_, refl, sym, ap, _∙_, subst}
 use mathlib.Core.List.{List, [], _∷_, _++_}
 use mathlib.Core.Option.{none, some}
-use Prim.Native.Nat.{ℕ, suc, _+_, _-_, _≤_, _<_}
+use Prim.Native.Nat.{ℕ, suc, _+_, _-_, _*_, _≤_, _<_}
 use native.Mathlib.Omega.{arith}
 use lib.Dec.{T}
 use lib.ListN.{length, drop, length-drop}
-use Rattle.text.specs.Parts.{firstLine}
+use Rattle.text.specs.Parts.{firstLine, LineStart}
 use Rattle.text.proofs.Laws.LinesIn.{firstLine-from, firstLine-to, firstLine-next, nextLine-wider}
-use Rattle.rules.specs.Elements.{element}
+use Rattle.text.proofs.Laws.LineStarts.{lineStart-next, lineStart-first}
+use Rattle.rules.specs.FirstRule.{element}
 use Rattle.rules.specs.Headings.{isHeading, isHeadingUpTo}
 use Rattle.rules.specs.Kind
-use Rattle.rules.specs.Kind.{holdsSections, isHolder}
+use Rattle.rules.specs.Kind.{holdsSections, holdsElements, isHolder, isBound}
 use Rattle.rules.proofs.Basics.{All, all-nil, all-cons, all-map, all-getD}
 use Rattle.rules.proofs.Laws.Headings.{heading-nonblank, upTo-heading}
 use Rattle.rules.proofs.Laws.Kind.{sections-low, sections-holder, elements-high}
@@ -20,20 +21,24 @@ use Rattle.table.specs.Proper.{withParent, Tiled, IsSectionRecord, IsTop
 use Rattle.table.specs.Reading.{section}
 use Rattle.table.specs.Records.{noRecord, at}
 use Rattle.table.specs.Sections.{sectionEnd, sectionStart}
+use Rattle.table.specs.Closers.{closersEnd, Sought}
 use Rattle.table.proofs.Basics.{split}
 use Rattle.table.proofs.Laws.Proper.{withParent-append, withParent-yes, withParent-from}
 use Rattle.table.proofs.Laws.Reading.{sectionOf, sectionContents, section-yes, section-no, nextUpTo}
 use Rattle.table.proofs.Laws.Records.{at-run, at-head, drop-head}
-use Rattle.table.proofs.Laws.Sections.{sectionEnd-to, sectionStart-from, sectionStart-to, sectionStart-first, sectionStart-plain}
+use Rattle.table.proofs.Laws.Closers.{ends-bound}
+use Rattle.table.proofs.Laws.Sections.{sectionEnd-from, sectionEnd-to, sectionStart-from, sectionStart-to, sectionStart-first, sectionStart-plain}
 use Rattle.table.proofs.Laws.Fits.{left-to}
 use Rattle.table.proofs.Proper.Contents.{contents-forest}
 use Rattle.table.proofs.Proper.Forest.{Forest, own-from, owned, forest-filled, forest-local}
+use Rattle.table.proofs.Proper.Sync.{Sync, bound-first}
 use Rattle.table.proofs.Proper.Stands.{Child, Filled, SectionAfter, Local, stands-local, outside-wider, Placed, placed-first}
 use Rattle.table.specs.declared.record.Record.{Record}
 
 -- c is a document or heading
 pub record Top (s : List ℕ) (c : Record) : Type 0 where
   pub kind : T (holdsSections (c .kind))
+  pub start : LineStart s (c .from)
   pub text : c .from ≤ length s
   pub end : c .to ≡ nextUpTo s (c .detail) (c .from)
 
@@ -53,9 +58,16 @@ top-child s c r h w top section =
       section = section;
       top = λ i. top;
       element = λ i. absurd (omega (arith, elements-high (c .kind) i));
+      item = λ e. absurd (omega arith);
       property = λ e. absurd (omega arith);
       row = λ e. absurd (omega arith);
     }
+
+-- they hold no rules' finds
+pub top-sought : (s : List ℕ) (h : ℕ) (c r : Record) → T (holdsSections (c .kind)) → Sought s h c r
+top-sought s h c r i =
+    let low = sections-low (c .kind) i in
+    record { element = λ j. absurd (omega (arith, elements-high (c .kind) j)); item = λ k. absurd (omega arith) }
 
 module _ (s : List ℕ) (c : Record) (top : Top s c) where
   abbrev a : ℕ
@@ -72,6 +84,14 @@ module _ (s : List ℕ) (c : Record) (top : Top s c) where
   end-inner : e ≤ c .to
   unfolding sectionEnd
   end-inner = rw (top .end) (nextLine-wider s (isHeadingUpTo (c .detail)) isHeading (c .from) (upTo-heading (c .detail)))
+
+  end-start : LineStart s e
+  unfolding sectionEnd
+  end-start = lineStart-next s (c .from) (top .start) isHeading
+
+  section-start : LineStart s a
+  unfolding sectionStart
+  section-start = lineStart-first s (c .from) e (top .start) end-start (sectionEnd-from s c)
 
   start-to : a ≤ e
   start-to = sectionStart-to s c (top .text)
@@ -101,14 +121,24 @@ module _ (s : List ℕ) (c : Record) (top : Top s c) where
 
     -- ---- what the section holds
 
-    inner-forest : Forest s sec (suc q) (firstLine s a e) (suc (suc q)) inner
+    inner-sync : Sync s e sec (firstLine s a e)
+    inner-sync =
+        record {
+          start = end-start;
+          text = end-text;
+          bound = λ i. bound-first s a e section-start end-start start-to end-text;
+          item = λ k. absurd (omega arith);
+          list = λ k. absurd (omega arith);
+        }
+
+    inner-forest : Forest s e sec (suc q) (firstLine s a e) (suc (suc q)) inner
     unfolding isHolder
     inner-forest =
         let first = firstLine s a e in
         let from = firstLine-from s a e start-to end-text in
         let to = firstLine-to s a e start-to end-text in
-        contents-forest (suc (e - a)) s sec (suc q) first (suc (suc q))
-        (record { holder = tt; kind = omega arith; from = from; to = to; text = end-text }) (omega (arith, left-to sec first))
+        contents-forest (suc (2 * (e - a))) s e sec (suc q) first (suc (suc q))
+        (record { holder = tt; kind = omega arith; from = from; to = to; text = end-text }) inner-sync (omega (arith, left-to sec first))
 
     inner-from : All (λ r. suc q ≤ r .parent) inner
     inner-from = all-map (own-from (suc q) (suc (suc q)) (omega arith)) (owned inner-forest)
@@ -167,7 +197,7 @@ module _ (s : List ℕ) (c : Record) (top : Top s c) where
 
       local-section : Local s R (suc q)
       local-section =
-          stands-local at-section (pl .holder)
+          stands-local at-section (pl .holder) refl
           (record {
             earlier = omega arith;
             together = λ i b d. absurd (omega arith);
@@ -175,12 +205,14 @@ module _ (s : List ℕ) (c : Record) (top : Top s c) where
             section = λ k. absurd (let low = sections-low Kind.section k in omega arith);
             filled = forest-filled R inner-here (outside-wider (pl .apart) (omega arith) (omega arith)) inner-forest;
             child = top-child s c sec (top .kind) within is-top (λ k. (refl, refl));
+            sought = top-sought s (closersEnd R q) c sec (top .kind);
           })
 
       local-in : (j : ℕ) → q < j → j < suc q + length (sec ∷ inner) → Local s R j
+      unfolding isBound holdsElements
       local-in j b d =
           split (suc q) j
-          (λ i. forest-local inner-forest R post inner-placed j i (omega arith))
+          (λ i. forest-local inner-forest R post inner-placed (ends-bound R (suc q) sec at-section refl) j i (omega arith))
           (λ i. let z : suc q ≡ j = omega arith in subst (Local s R) z local-section)
 
     pub section-local : (R post : List Record) → Placed R c q (suc q) group post → (j : ℕ) → q < j → j < suc q + length group → Local s R j

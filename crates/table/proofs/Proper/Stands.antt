@@ -11,9 +11,10 @@ use Rattle.text.specs.Parts.{firstLine}
 use Rattle.rules.specs.Kind
 use Rattle.rules.specs.Kind.{holdsSections, holdsElements, isHolder}
 use Rattle.rules.proofs.Basics.{All, all-map, all-getD}
-use Rattle.table.specs.Proper.{withParent, Tiled, IsTopRecord, IsElementRecord, IsLineRecord, Within, Nearest}
+use Rattle.table.specs.Proper.{withParent, Tiled, IsTopRecord, IsElementRecord, IsItemRecord, IsLineRecord, Within, Nearest}
 use Rattle.table.specs.Records.{noRecord, at, up}
 use Rattle.table.specs.Sections.{sectionEnd, sectionStart, rowDetail}
+use Rattle.table.specs.Closers.{closersEnd, Sought}
 use Rattle.table.proofs.Basics.{on, split}
 use Rattle.table.proofs.Laws.Proper.{withParent-none}
 use Rattle.table.proofs.Laws.Records.{at-run}
@@ -27,6 +28,7 @@ pub record Child (s : List ℕ) (c r : Record) : Type 0 where
   pub section : r .kind ≡ Kind.section → (r .start ≡ sectionStart s c) × (r .end ≡ sectionEnd s c)
   pub top : T (holdsSections (c .kind)) → IsTopRecord s c r
   pub element : T (holdsElements (c .kind)) → IsElementRecord s (c .to) r
+  pub item : c .kind ≡ Kind.list → IsItemRecord s (c .to) r
   pub property : c .kind ≡ Kind.propertyDrawer → IsLineRecord s (c .to) Kind.nodeProperty (λ l. 0) r
   pub row : c .kind ≡ Kind.table → IsLineRecord s (c .to) Kind.row rowDetail r
 
@@ -44,21 +46,23 @@ Inside R q k = (i : ℕ) → q < i → i < k → q ≤ (at R i) .parent
 abbrev pub SectionAfter : List Record → ℕ → Type 0
 SectionAfter R i = (suc i < length R) × ((at R (suc i)) .kind ≡ Kind.section) × ((at R (suc i)) .parent ≡ i)
 
--- r has index j, and c holds it
-pub record Stands (s : List ℕ) (R : List Record) (j : ℕ) (c r : Record) : Type 0 where
+-- r has index j, and c holds it, where closers are sought up to h
+pub record Stands (s : List ℕ) (R : List Record) (j h : ℕ) (c r : Record) : Type 0 where
   pub earlier : r .parent < j
   pub together : Inside R (r .parent) j
   pub heading : r .kind ≡ Kind.heading → Nearest R j (r .parent)
   pub section : T (holdsSections (r .kind)) → sectionStart s r < sectionEnd s r → SectionAfter R j
   pub filled : T (isHolder (r .kind)) → Filled s r (withParent j (drop (suc j) R))
   pub child : Child s c r
+  pub sought : Sought s h c r
 
 -- record j of the table
 abbrev pub Local : List ℕ → List Record → ℕ → Type 0
-Local s R j = Stands s R j (up R j) (at R j)
+Local s R j = Stands s R j (closersEnd R ((at R j) .parent)) (up R j) (at R j)
 
-pub stands-local : {s : List ℕ} {R : List Record} {j : ℕ} {c r : Record} → at R j ≡ r → at R (r .parent) ≡ c → Stands s R j c r → Local s R j
-stands-local e d h = rw (e, d) h
+pub stands-local : {s : List ℕ} {R : List Record} {j h : ℕ} {c r : Record} → at R j ≡ r → at R (r .parent) ≡ c → closersEnd R (r .parent) ≡ h
+    → Stands s R j h c r → Local s R j
+stands-local e d f x = rw (e, d, f) x
 
 -- ---- records E of a container c, at index k of a table
 

@@ -18,7 +18,7 @@ use Rattle.table.specs.Sections.{lineAt, sectionEnd}
 use Rattle.table.proofs.Basics.{split}
 use Rattle.table.proofs.Laws.Proper.{withParent-yes, withParent-no}
 use Rattle.table.proofs.Laws.Reading.{Earlier, nearest-here, nearest-skip, starsAt, nextHeading, nextUpTo, headingAt, groupAt}
-use Rattle.table.proofs.Proper.Heads.{Heads, heads-none, heads-step, starsAt-le, heading-top, Apart, heads-outside}
+use Rattle.table.proofs.Proper.Heads.{Begins, Heads, heads-none, heads-step, starsAt-le, heading-top, Apart, heads-outside}
 use Rattle.table.proofs.Proper.Sections.{Top, section-none, top-filled}
 use Rattle.table.proofs.Proper.Stands.{Filled, withParent-outside}
 use Rattle.table.specs.declared.record.Record.{Record}
@@ -71,7 +71,7 @@ module _ (s : List ℕ) (i m : ℕ) where
 
   -- ---- the heading at p, of index k, with v stars
 
-  module _ {hs : Earlier} {p k : ℕ} {H : List Record} {x : ℕ} (l : p < length s) (y : isHeading (lineAt s p) ≡ true)
+  module _ {hs : Earlier} {p k : ℕ} {H : List Record} {x : ℕ} (l : Begins s p) (y : isHeading (lineAt s p) ≡ true)
       (hd : Heads s ((k, starsAt s p) ∷ hs) (nextHeading s p) (suc k + length (groupAt s hs p k)) H) (ik : i < k) (o : Open s i m x hs) where
     abbrev v : ℕ
     v = starsAt s p
@@ -95,11 +95,11 @@ module _ (s : List ℕ) (i m : ℕ) where
     -- with more stars than the last child
     deeper-open : x < v → Open s i m x ((k, v) ∷ hs)
     deeper-open c =
-        open-more k v x x hs ik (o .order) (omega arith) (omega arith) (λ z a b. o .deep z a (omega (arith, starsAt-le s p l))) o
+        open-more k v x x hs ik (o .order) (omega arith) (omega arith) (λ z a b. o .deep z a (omega (arith, starsAt-le s p (l .inside)))) o
 
     deeper-tiled : x < v → Next x → Here
     deeper-tiled c t =
-        let none = withParent-no i h (g ++ H) (o .deep v c (starsAt-le s p l)) in
+        let none = withParent-no i h (g ++ H) (o .deep v c (starsAt-le s p (l .inside))) in
         rw (none, none-in-group, nextUpTo-past s p x c, nextUpTo-past s p m (omega (arith, o .order))) t
 
     -- a child
@@ -138,7 +138,7 @@ module _ (s : List ℕ) (i m : ℕ) where
 
 heads-here : {s : List ℕ} {hs : Earlier} {p k : ℕ} {H : List Record} → Heads s hs p k H → nextUpTo s (length s) p ≡ p
 heads-here {s = s} {p = p} (heads-none e) = nextUpTo-end s p (length s) e
-heads-here {s = s} {p = p} (heads-step l y hd) = nextUpTo-here s p (length s) y (starsAt-le s p l)
+heads-here {s = s} {p = p} (heads-step l y hd) = nextUpTo-here s p (length s) y (starsAt-le s p (l .inside))
 
 -- its section, and the headings after that
 pub heads-filled : (s : List ℕ) (c : Record) (q k : ℕ) (hs : Earlier) (H : List Record) → Top s c → Heads s hs (sectionEnd s c) k H → q < k

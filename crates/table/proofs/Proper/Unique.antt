@@ -12,13 +12,13 @@ use borrow.Table.Steps.{cases}
 use Rattle.text.specs.Lines.{Line}
 use Rattle.text.specs.LineNumbers.{lineNumber}
 use Rattle.text.specs.Parts.{firstLine}
-use Rattle.rules.specs.Elements.{element}
+use Rattle.rules.specs.FirstRule.{element}
 use Rattle.rules.specs.Headings.{isHeading}
 use Rattle.rules.specs.Kind
 use Rattle.rules.specs.Kind.{isHolder}
 use Rattle.rules.proofs.Basics.{all-of}
-use Rattle.rules.proofs.Laws.Kind.{Holds, sections, elements, properties, rows, holder-holds}
-use Rattle.table.specs.Proper.{withParent, children, Tiled, Has, IsHeadingRecord, IsSectionRecord, IsTopRecord, IsElementRecord, IsLineRecord}
+use Rattle.rules.proofs.Laws.Kind.{Holds, sections, elements, properties, rows, items, holder-holds}
+use Rattle.table.specs.Proper.{withParent, children, Tiled, Has, IsHeadingRecord, IsSectionRecord, IsTopRecord, HasFound, IsElementRecord, IsItemRecord, IsLineRecord}
 use Rattle.table.specs.Proper.{EachLater, Proper}
 use Rattle.table.specs.Reading.{section}
 use Rattle.table.specs.Records.{noRecord, at, up}
@@ -55,8 +55,12 @@ module _ (r q : Record) (start : r .start ≡ q .start) (parent : r .parent ≡ 
         (λ e. section-only (rw (f, e, IsTopRecord) at x) (rw (e, IsTopRecord) at y))
 
     element-only : IsElementRecord s (c .to) r → IsElementRecord s (c .to) q → r ≡ q
-    unfolding IsElementRecord
+    unfolding IsElementRecord HasFound
     element-only x y = record-path r q (cc) start (cc) (cc) (cc) parent (cc) line
+
+    item-only : IsItemRecord s (c .to) r → IsItemRecord s (c .to) q → r ≡ q
+    unfolding IsItemRecord HasFound
+    item-only x y = record-path r q (cc) start (cc) (cc) (cc) parent (cc) line
 
     line-only : (k : ℕ) (d : Line → ℕ) → IsLineRecord s (c .to) k d r → IsLineRecord s (c .to) k d q → r ≡ q
     unfolding IsLineRecord
@@ -70,6 +74,7 @@ module _ (r q : Record) (start : r .start ≡ q .start) (parent : r .parent ≡ 
         go (elements h) = element-only (x .element h) (y .element h)
         go (properties h) = line-only Kind.nodeProperty (λ l. 0) (x .property h) (y .property h)
         go (rows h) = line-only Kind.row rowDetail (x .row h) (y .row h)
+        go (items h) = item-only (x .item h) (y .item h)
 
 proper-child : (s : List ℕ) (R : List Record) → Proper s R → EachLater R (λ k. Child s (up R k) (at R k))
 proper-child s R h k a b =
@@ -79,6 +84,7 @@ proper-child s R h k a b =
       section = h .sectionsOnly k a b;
       top = h .tops k a b;
       element = h .elements k a b;
+      item = h .items k a b;
       property = h .properties k a b;
       row = h .rows k a b;
     }

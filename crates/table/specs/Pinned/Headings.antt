@@ -37,7 +37,8 @@ headingCases =
     ∷ [])
     ∷ "** a\n*** b\n* c\n" reads (rec 1 0 15 0 15 0 0 0 ∷ rec 2 0 11 5 11 0 2 0 ∷ rec 2 5 11 11 11 1 3 1 ∷ rec 2 11 15 15 15 0 1 2 ∷ [])
     ∷ "**************************************** \n" reads (rec 1 0 42 0 42 0 0 0 ∷ rec 2 0 42 42 42 0 40 0 ∷ [])
-    ∷ "*a\n * b\n**\n" kinds (1 ∷ 3 ∷ 16 ∷ [])
+    ∷ "*a\n *b\n**\n" kinds (1 ∷ 3 ∷ 16 ∷ [])
+    ∷ "*a\n * b\n**\n" kinds (1 ∷ 3 ∷ 16 ∷ 17 ∷ 18 ∷ 16 ∷ 16 ∷ [])
     ∷ []
 
 -- a heading line inside an open drawer or block is a heading

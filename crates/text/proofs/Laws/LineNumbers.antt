@@ -15,6 +15,7 @@ use Rattle.text.specs.Parts.{part, linesIn, lineIn, LineStart}
 use Rattle.text.specs.LineNumbers.{count, lineNumber}
 use Rattle.text.proofs.Laws.Lines.{line, rest, line-newline, line-other, take-line, lines-some, size-take-add, size-headLine}
 use Rattle.text.proofs.Laws.Parts.{part-slice, part-take, part-length}
+use Rattle.text.proofs.Laws.LinesIn.{lineIn-to}
 use Rattle.text.proofs.Laws.LineStarts.{linesIn-start, lines-between}
 
 count-append : (f : ℕ → Bool) (x y : List ℕ) → count f (x ++ y) ≡ count f x + count f y
@@ -51,6 +52,15 @@ lines-number (suc a) t h =
     rw step
     (rw (take-add (length (line t)) k t, take-line t, count-append isNewline (line t) (take k (rest t)))
     (omega (arith, line-newline-one t (omega arith), more)))
+
+-- only the last byte of a text's first line can be byte 10
+count-line : (t : List ℕ) (j : ℕ) → j < length (line t) → count isNewline (take j t) ≡ 0
+unfolding count
+count-line t zero h = refl
+count-line [] (suc j) h = refl
+count-line (b ∷ t) (suc j) h = cases (isNewline b)
+    (λ e. absurd (omega (arith, ap length (line-newline b t e))))
+    (λ e. rw (e, count) (count-line t j (omega (arith, ap length (line-other b t e)))))
 
 module _ (s : List ℕ) where
   pub lineNumber-zero : lineNumber s 0 ≡ 0
@@ -102,3 +112,13 @@ module _ (s : List ℕ) where
   lineNumber-next p e q h t i j =
       let one : q ≡ p + size (take 1 (linesIn s p e)) = i ∙ ap (λ (k : ℕ). p + k) (size-headLine (linesIn s p e)) in
       rw one (lineNumber-in p e 1 (omega arith) t (rw one at j))
+
+  -- inside the line at byte p, up to byte e
+  pub lineNumber-inside : (p e j : ℕ) → j < length (lineIn s p e) → p ≤ e → e ≤ length s → lineNumber s (p + j) ≡ lineNumber s p
+  unfolding lineIn linesIn
+  lineNumber-inside p e j h o t =
+      let to = lineIn-to s p e o t in
+      let slice : take j (drop p s) ≡ take j (part s p e) =
+      let e′ : p + j - p ≡ j = omega arith in
+      rw e′ at (part-slice s p (p + j) (omega arith)) ∙ sym (part-take s j p e (omega arith)) in
+      rw (lineNumber-part p j, slice) (omega (arith, count-line (part s p e) j h))

@@ -9,6 +9,7 @@ use comparison::check::{check, Tally};
 use comparison::dates::check_days;
 use comparison::drawers::REASONS;
 use comparison::escape::escape;
+use comparison::lists;
 use comparison::random::Random;
 use comparison::searches::MEETINGS;
 use comparison::situations::SITUATIONS;
@@ -52,7 +53,8 @@ fn main() -> ExitCode {
     println!("{}", summary(count, &texts, &tally));
     if count >= COUNT && !sees_all(&texts, &tally) {
         eprintln!(
-            "compare: a class of text, an answer, a kind, a sort of lookup, search or date never came"
+            "compare: a class of text, an answer, a kind, a sort of lookup, list, search or date never \
+             came"
         );
         return ExitCode::FAILURE;
     }
@@ -60,7 +62,7 @@ fn main() -> ExitCode {
 }
 
 /// Did each class of text, each answer of readings and lookups, each kind of record and each sort
-/// of lookup, with defaults too, of search for a closer and of answer about dates come?
+/// of lookup, with defaults too, of list, of search for a closer and of answer about dates come?
 fn sees_all(texts: &[usize], tally: &Tally) -> bool {
     let lookups = [0, 1, 4, 5, 6, 7, 8, 9, 10].map(|number| tally.lookups[number]);
     let kinds = &tally.kinds[1..];
@@ -73,6 +75,7 @@ fn sees_all(texts: &[usize], tally: &Tally) -> bool {
         &tally.drawers,
         &tally.defaults,
         kinds,
+        &tally.lists,
         &tally.searches,
         &dates,
     ]
@@ -99,13 +102,14 @@ fn summary(count: u64, texts: &[usize], tally: &Tally) -> String {
     let drawers = by_name(drawers.zip(tally.drawers));
     let defaults = SITUATIONS.iter().map(|(situation, _)| *situation);
     let defaults = by_name(defaults.zip(tally.defaults));
+    let lists = by_name(lists::names().zip(tally.lists));
     let searches = MEETINGS.iter().map(|(meeting, _)| *meeting);
     let searches = by_name(searches.zip(tally.searches));
     let dates = tally.dates.seen();
     let dates = dates.map(|(about, seen)| format!("{about}: {}", by_name(seen.into_iter())));
     format!(
         "compare: {count} texts agree ({}); readings by number {}; lookups by number {}; \
-         drawers: {drawers}; defaults: {defaults}; records by kind {}; \
+         drawers: {drawers}; defaults: {defaults}; records by kind {}; lists: {lists}; \
          searches for closers: {searches}; {}",
         classes.join(", "),
         by_number(&tally.readings),

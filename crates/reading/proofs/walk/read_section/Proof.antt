@@ -2,6 +2,7 @@
 -- elements, from its first line on and at the place that the lines before it give.
 -- Assumes nothing.
 use mathlib.Core.Path.{_≡_, _∙_, ap}
+use mathlib.Core.Bool.{false≢true}
 use Prim.Native.Nat.{_≤_, _<_, _+_}
 use native.Mathlib.Omega.{arith}
 use lib.ListN.{length}
@@ -77,7 +78,7 @@ read-elements-requires c κs =
     let at-place = c .before .before .before .before .before in
     let at-first = at-place .before .before .before in
     let bounds = order at-first in (
-      record { range = range at-first; place = λ h. placed at-place; known = knows-nothing _ _ _ },
+      record { range = range at-first; place = λ i h. placed at-place; all = λ i. absurd (false≢true i); known = knows-nothing _ _ _ },
       omega arith,
       omega arith,
       omega arith,
@@ -95,7 +96,7 @@ returns-2 c =
       at-read .read-elements .ensures .0
           ∙ section-turn _ _ _ _ _ _ (start at-first .pre .0 .end) (at-first .first-line .ensures .0) _ (at-test .if1 .left)
           (rw line at (at-emit .emit .ensures .0)),
-      (omega (arith, at-read .read-elements .ensures .1 .0), at-read .read-elements .ensures .1 .1 (at-test .if1 .left)),
+      (omega (arith, at-read .read-elements .ensures .1 .0), at-read .read-elements .ensures .1 .1 (at-test .if1 .left) .1),
     )
 
 pub read-section-spec : {M : Type 1} → statement M

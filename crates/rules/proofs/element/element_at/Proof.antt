@@ -1,21 +1,15 @@
--- `rules::element::element_at` meets its contract: what the first rule finds, or a paragraph where none holds.
+-- `rules::element::element_at` meets its contract: where rules are tried, what the first that holds finds, and a list at an item line where none
+-- holds; else a paragraph.
 -- Assumes nothing.
-use mathlib.Core.Path.{_≡_, sym, ap, _∙_}
-use mathlib.Core.Bool.{false}
+use mathlib.Core.Path.{_≡_, sym, _∙_}
 use mathlib.Core.Logic.{⊎-elim}
 use native.Mathlib.Omega.{arith}
 use borrow.Author.Needs.{needs}
-use Rattle.text.specs.Runs.{word}
-use Rattle.text.specs.Parts.{linesIn}
-use Rattle.text.proofs.Laws.LinesIn.{linesIn-length}
-use Rattle.rules.specs.declared.lines.LineRun.{LineRun}
-use Rattle.rules.specs.Known.{NoLine, hasName, Names}
-use Rattle.rules.specs.Findings.{paragraphRun}
-use Rattle.rules.proofs.Laws.LineOf.{lineOf-order}
-use Rattle.rules.proofs.Laws.NoLines.{knows-element, knows-next}
-use Rattle.rules.proofs.Laws.FirstOf.{element-holds, element-fails}
-use Rattle.rules.proofs.Laws.Elements.{paragraphLines-le}
-use Rattle.rules.proofs.Laws.Paragraphs.{paragraph-spanned}
+use Rattle.text.specs.Parts.{linesIn, lineIn}
+use Rattle.rules.specs.FirstRule.{paragraph, element}
+use Rattle.rules.proofs.Laws.LineOf.{lineOf-order, lineOf-from}
+use Rattle.rules.proofs.Laws.NoLines.{knows-element}
+use Rattle.rules.proofs.Laws.FirstOf.{element-holds, element-list, element-fails, element-rest}
 use Rattle.rules.proofs.element.element_at.Statement.{statement}
 use Rattle.rules.proofs.element.element_at.Tie as tie
 
@@ -23,65 +17,56 @@ returns : tie.Need-returns
 returns c =
     let at-element = c .before in
     let at-rule = at-element .before .before in
-    let is = element-holds _ _ _ _ (sym (at-element .e .given .1) ∙ at-rule .find-rule .ensures) in
-    (is, knows-element _ _ _ _ _ (at-rule .before .before .pre .known) _ _ is)
+    let at-place = at-rule .before .before in
+    let rules = sym (at-place .allows-rules .ensures) ∙ at-rule .before .if1 .taken in
+    let is = element-holds _ _ _ rules _ (sym (at-element .e .given .1) ∙ at-rule .find-rule .ensures) in
+    record { is = is; known = knows-element _ _ _ _ _ (at-place .before .before .pre .0 .known) _ _ is }
 
--- what is known after its first line
-
-ends : (c : tie.Joined1) → let args = c .before .before .before .before .before .before .args in
-    c .if1 .ends ≡ false → NoLine (word ":end:") (args .text .now) (args .line .end) (args .scope .end)
-ends c z =
-    let pre = c .before .before .before .before .before .before .pre in
-    ⊎-elim (λ w. w .1 .ensures (sym (w .2) ∙ z)) (λ w. knows-next _ _ _ _ _ (pre .line) (pre .known) .ends (sym (w .1) ∙ z)) (c .if1 .came)
-
-names : (c : tie.Joined2) → let args = c .before .before .before .before .before .before .before .args in
-    Names (args .text .now) (args .line .end) (args .scope .end) (c .if2 .names)
-names c x z =
-    let pre = c .before .before .before .before .before .before .before .pre in
-    ⊎-elim
-    (λ w. w .1 .ensures x (sym (ap (λ m. hasName m x) (w .2)) ∙ z))
-    (λ w. knows-next _ _ _ _ _ (pre .line) (pre .known) .names x (sym (ap (λ m. hasName m x) (w .1)) ∙ z))
-    (c .if2 .came)
-
-paragraph-lines-requires : tie.Need-paragraph-lines-requires
-paragraph-lines-requires c κs =
-    let o = lineOf-order _ _ _ (c .before .before .before .before .before .before .before .pre .line) in
-    (o .4, o .5, record { ends = ends (c .before); names = names c })
-
-add : tie.Need-add-t14
-unfolding paragraphRun
-add c =
-    let at-lines = c .before .before in
-    let start = at-lines .before .before .before .before .before .before .before .before in
-    let s = start .args .text .now in
-    let l = start .args .line in
-    let e = start .args .scope .end in
-    let o = lineOf-order _ _ _ (start .pre .line) in
-    let lines = ap (λ (x : LineRun). x .lines) (at-lines .paragraph-lines .ensures .0) in
-    omega (arith, lines, paragraphLines-le (linesIn s (l .end) e), linesIn-length s (l .end) e (o .4) (o .5))
+is-item-requires : tie.Need-is-item-requires
+is-item-requires c κs =
+    let line = c .before .before .before .before .before .before .pre .0 .line in
+    let o = lineOf-order _ _ _ line in
+    (omega arith, o .5, lineOf-from _ _ _ line)
 
 returns-2 : tie.Need-returns-2
+unfolding lineIn
 returns-2 c =
-    let at-lines = c .before .before in
-    let at-told = at-lines .before .before .before .before in
+    let at-item = c .before .before in
+    let at-told = at-item .before in
     let at-rule = at-told .before .before in
-    let further = at-lines .paragraph-lines .ensures in (
-      rw (element-fails _ _ _ (sym (at-told .enum-told .given .1) ∙ at-rule .find-rule .ensures))
-          (paragraph-spanned _ _ _ (at-rule .before .before .pre .line) _ (further .0)),
-      further .1,
-    )
+    let at-place = at-rule .before .before in
+    let rules = sym (at-place .allows-rules .ensures) ∙ at-rule .before .if1 .taken in
+    let fails = sym (at-told .enum-told .given .1) ∙ at-rule .find-rule .ensures in
+    let is = element-list _ _ _ rules fails (sym (at-item .is-item .ensures) ∙ c .before .if2 .taken) in
+    record { is = rw is (c .list-at .ensures .is); known = c .list-at .ensures .known }
+
+-- no rule finds anything, or none is tried
+rest : (c : tie.Joined1) → let args = c .before .before .before .args in
+    let ls = linesIn (args .text .now) (args .line .start) (args .scope .end) in
+    element (args .scope .place) ls ≡ paragraph ls
+unfolding lineIn
+rest c =
+    let allows = sym (c .before .allows-rules .ensures) in
+    ⊎-elim
+    (λ w. let (rules, found, m, told, item, other) = w in
+    element-fails _ _ _ (allows ∙ rules .taken) (sym (told .given .1) ∙ found .ensures) (sym (item .ensures) ∙ other .left))
+    (λ w. element-rest _ _ (allows ∙ w .left))
+    (c .if1 .came)
+
+returns-3 : tie.Need-returns-3
+returns-3 c = record { is = rw (rest (c .before)) (c .paragraph-at .ensures .is); known = c .paragraph-at .ensures .known }
 
 pub element-at-spec : {M : Type 1} → statement M
 element-at-spec =
     tie.close
     (tie.spec
     (λ c κs. search needs)
+    (λ c κs. c .before .before .before .pre .0)
     (λ c. search needs)
     returns
     (λ c. search needs)
-    (λ c κs. c .before .before .before .before .pre .line)
-    (λ c κs. search needs)
-    (λ c κs. search needs)
-    paragraph-lines-requires
-    add
-    returns-2)
+    is-item-requires
+    (λ c κs. c .before .before .before .before .before .before .before .before .pre)
+    returns-2
+    (λ c κs. c .before .before .before .pre .0)
+    returns-3)

@@ -7,7 +7,7 @@ use types.Run.{miss}
 use borrow.Author.Needs.{needs}
 use borrow.Author.Tests.{not-true, not-false}
 use Rattle.rules.specs.declared.place.Place.{Place}
-use Rattle.rules.specs.declared.place.Place.the-variants.{AfterHeading, AfterPlanning, Opening, AfterComment, Elsewhere}
+use Rattle.rules.specs.declared.place.Place.the-variants.{AfterHeading, AfterPlanning, Opening, AfterComment, Elsewhere, InLine}
 use Rattle.rules.specs.Places.{afterBlank}
 use Rattle.rules.proofs.place.first_place.Statement.{statement}
 use Rattle.rules.proofs.place.first_place.Tie as tie
@@ -29,11 +29,12 @@ afterBlank-other AfterPlanning h = refl
 afterBlank-other Opening h = absurd (h refl)
 afterBlank-other AfterComment h = refl
 afterBlank-other Elsewhere h = refl
+afterBlank-other InLine h = refl
 
 returns-3 : tie.Need-returns-3
 returns-3 c =
     let place = c .before .before .args .place in
-    rw (blank (c .before)) (sym (afterBlank-other place (λ e. miss (0 ∷ 1 ∷ 3 ∷ 4 ∷ []) 2 tt (rw e at (c .match .keys2)))))
+    rw (blank (c .before)) (sym (afterBlank-other place (λ e. miss (0 ∷ 1 ∷ 3 ∷ 4 ∷ 5 ∷ []) 2 tt (rw e at (c .match .keys2)))))
 
 pub first-place-spec : {M : Type 1} → statement M
 first-place-spec = tie.close (tie.spec returns (λ c. search needs) returns-2 returns-3)

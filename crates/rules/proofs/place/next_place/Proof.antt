@@ -9,7 +9,7 @@ use borrow.Author.Needs.{needs}
 use borrow.Author.Tests.{eq-eqb, ne-eqb, not-true, not-false}
 use Rattle.rules.specs.Kind
 use Rattle.rules.specs.declared.place.Place.{Place}
-use Rattle.rules.specs.declared.place.Place.the-variants.{AfterHeading, AfterPlanning, Opening, AfterComment, Elsewhere}
+use Rattle.rules.specs.declared.place.Place.the-variants.{AfterHeading, AfterPlanning, Opening, AfterComment, Elsewhere, InLine}
 use Rattle.rules.specs.Places.{afterFirstComment, nextPlace}
 use Rattle.rules.proofs.place.next_place.Statement.{statement}
 use Rattle.rules.proofs.place.next_place.Tie as tie
@@ -55,11 +55,12 @@ afterFirstComment-other AfterPlanning h k = refl
 afterFirstComment-other Opening h k = absurd (h refl)
 afterFirstComment-other AfterComment h k = absurd (k refl)
 afterFirstComment-other Elsewhere h k = refl
+afterFirstComment-other InLine h k = refl
 
 returns-6 : tie.Need-returns-6
 returns-6 c =
     let place = c .before .before .before .before .args .place in
-    let tags : List ℕ = 0 ∷ 1 ∷ 4 ∷ [] in
+    let tags : List ℕ = 0 ∷ 1 ∷ 4 ∷ 5 ∷ [] in
     rw (comment (c .before))
     (sym (afterFirstComment-other place (λ e. miss tags 2 tt (rw e at (c .match .keys3))) (λ e. miss tags 3 tt (rw e at (c .match .keys3)))))
 

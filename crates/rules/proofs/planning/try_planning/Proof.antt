@@ -17,7 +17,7 @@ use Rattle.rules.proofs.planning.try_planning.Tie as tie
 returns : tie.Need-returns
 returns c =
     let start = c .before .before in
-    planning-no _ _ _ (start .pre .line) _ (rw (allowsPlanning-no (start .args .scope .place) (λ e. miss (1 ∷ 2 ∷ 3 ∷ 4 ∷ []) 0 tt (rw e at (c .match .keys2)))))
+    planning-no _ _ _ (start .pre .line) _ (rw (allowsPlanning-no (start .args .scope .place) (λ e. miss (1 ∷ 2 ∷ 3 ∷ 4 ∷ 5 ∷ []) 0 tt (rw e at (c .match .keys2)))))
 
 -- the place allows it, so the line decides
 line : (c : tie.After-is-planning) → let start = c .before .before .before .before in
