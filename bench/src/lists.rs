@@ -1,6 +1,6 @@
 //! Texts with lists: the order book that people write, and texts made to be slow.
 
-use crate::texts::{drawer, ended, filled, numbered, wrapped, Dice, Text, CARS, PARTS};
+use crate::texts::{ended, filled, numbered, opening, wrapped, Dice, Text, PARTS};
 
 /// How many lists lie in one another around the lines of a hostile text. The limit is 32.
 const DEPTHS: [usize; 4] = [1, 4, 11, 31];
@@ -21,12 +21,7 @@ pub fn book(size: usize) -> Text {
 
 /// One order: planning, drawer, remarks and up to three lists.
 fn order(number: usize, dice: &mut Dice) -> String {
-    let (day, car) = (1 + dice.below(28), dice.pick(&CARS));
-    let mut order = format!("* TODO Order {number}: {car}\n");
-    if dice.below(3) > 0 {
-        order += &format!("SCHEDULED: <2026-03-{day:02}> DEADLINE: <2026-04-{day:02}>\n");
-    }
-    order += &drawer(number, dice);
+    let mut order = opening(number, 1 + dice.below(28), dice);
     order += &wrapped(1 + dice.below(3), dice);
     for _ in 0..1 + dice.below(3) {
         order += &list(dice);

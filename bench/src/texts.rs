@@ -186,12 +186,8 @@ pub fn prose(size: usize) -> Vec<u8> {
 
 /// One order: planning, drawer, remarks, and by turns parts, notes, a log and runs.
 fn order(number: usize, dice: &mut Dice) -> String {
-    let (day, car) = (1 + dice.below(28), dice.pick(&CARS));
-    let mut order = format!("* TODO Order {number}: {car}\n");
-    if dice.below(3) > 0 {
-        order += &format!("SCHEDULED: <2026-03-{day:02}> DEADLINE: <2026-04-{day:02}>\n");
-    }
-    order += &drawer(number, dice);
+    let day = 1 + dice.below(28);
+    let mut order = opening(number, day, dice);
     order += &wrapped(1 + dice.below(4), dice);
     order.push('\n');
     if number.is_multiple_of(2) {
@@ -210,7 +206,17 @@ fn order(number: usize, dice: &mut Dice) -> String {
     order
 }
 
-pub fn drawer(number: usize, dice: &mut Dice) -> String {
+/// An order's heading, most often a planning line, and its drawer.
+pub fn opening(number: usize, day: usize, dice: &mut Dice) -> String {
+    let car = dice.pick(&CARS);
+    let mut opening = format!("* TODO Order {number}: {car}\n");
+    if dice.below(3) > 0 {
+        opening += &format!("SCHEDULED: <2026-03-{day:02}> DEADLINE: <2026-04-{day:02}>\n");
+    }
+    opening + &drawer(number, dice)
+}
+
+fn drawer(number: usize, dice: &mut Dice) -> String {
     let (vin, fuel, boost) = (dice.below(1_000_000), 95 + dice.below(8), 8 + dice.below(9));
     format!(
         ":PROPERTIES:\n:VIN:      WBAPM5C51BA{vin:06}\n:REQUEST:  R-{number:06}\n\
@@ -271,7 +277,7 @@ impl Dice {
     }
 }
 
-pub const CARS: [&str; 5] = [
+const CARS: [&str; 5] = [
     "2011 BMW 335i, stage 2",
     "2009 VW Golf GTI, stage 1",
     "2015 Ford Focus ST, flex fuel",

@@ -1,6 +1,9 @@
 //! Lists and items (document 02, order 4), through the safe interface.
 
+mod nested;
+
 use comaltzex::{CheckBox, Item, Kind, Record, Refusal, Table, DEPTH_LIMIT, RECORD_SIZE};
+use nested::nested_lists;
 
 use Kind::{GreaterBlock, List, Paragraph, Row};
 
@@ -202,24 +205,12 @@ fn two_blank_lines_end_all_lists() {
     assert_eq!(kinds(in_a_block), block);
 }
 
-/// Lists in one another, or by turns a list and a block in its item.
-fn nested(depth: usize, with_blocks: bool) -> Vec<u8> {
-    let is_block = |level: &usize| with_blocks && level % 2 == 1;
-    let openers = (0..depth).map(|level| match is_block(&level) {
-        true => format!("{}#+begin_{level}\n", " ".repeat(level)),
-        false => format!("{}- a\n", " ".repeat(level)),
-    });
-    let closers = (0..depth).rev().filter(is_block);
-    let closers = closers.map(|level| format!("#+end_{level}\n"));
-    openers.chain(closers).collect::<String>().into_bytes()
-}
-
 #[test]
 fn lists_count_towards_the_depth() {
     for (with_blocks, count) in [(false, 2 + 3 * 32), (true, 2 + 3 * 16 + 16)] {
-        let deepest = Table::read(&nested(DEPTH_LIMIT, with_blocks)).unwrap();
+        let deepest = Table::read(&nested_lists(DEPTH_LIMIT, with_blocks)).unwrap();
         assert_eq!(deepest.len(), count);
-        let deeper = nested(DEPTH_LIMIT + 1, with_blocks);
+        let deeper = nested_lists(DEPTH_LIMIT + 1, with_blocks);
         assert_eq!(Table::read(&deeper), Err(Refusal::TooDeep));
     }
 }

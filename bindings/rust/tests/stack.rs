@@ -1,9 +1,12 @@
 //! A stack of 96 KB is enough for every text: the deepest nesting, more of it than is read, and texts of the greatest length.
 
+mod nested;
+
 use comaltzex::{
     find_closer, lookup, lookup_with_defaults, planning, read, timestamp, Refusal, DEPTH_LIMIT,
     RECORD_SIZE, TEXT_LIMIT,
 };
+use nested::nested_lists;
 use std::thread;
 
 const STACK: usize = 96 * 1024;
@@ -32,18 +35,6 @@ fn nested(depth: usize) -> Vec<u8> {
         .chain(closers)
         .collect::<String>()
         .into_bytes()
-}
-
-/// Lists in one another, or by turns a list and a block in its item.
-fn nested_lists(depth: usize, with_blocks: bool) -> Vec<u8> {
-    let is_block = |level: &usize| with_blocks && level % 2 == 1;
-    let openers = (0..depth).map(|level| match is_block(&level) {
-        true => format!("{}#+begin_{level}\n", " ".repeat(level)),
-        false => format!("{}- a\n", " ".repeat(level)),
-    });
-    let closers = (0..depth).rev().filter(is_block);
-    let closers = closers.map(|level| format!("#+end_{level}\n"));
-    openers.chain(closers).collect::<String>().into_bytes()
 }
 
 fn filled(line: &str) -> Vec<u8> {

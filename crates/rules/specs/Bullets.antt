@@ -13,7 +13,7 @@ use Rattle.text.specs.Parts.{lineIn}
 use Rattle.dates.specs.declared.parts.Past.{Past}
 use Rattle.dates.specs.declared.parts.Past.the-variants.{At, Missing}
 use Rattle.rules.specs.Items.{Part, afterByte, ended, afterAll, afterSign, isMark, afterNumber, isByte, afterSet, isBoxByte, afterBox}
-use Rattle.rules.specs.Items.{past, OpenItems}
+use Rattle.rules.specs.Items.{past}
 use Rattle.rules.specs.declared.item.Bullet.{Bullet}
 use Rattle.rules.specs.declared.item.Bullet.the-variants.{Sign, Number, Nothing}
 use Rattle.rules.specs.declared.item.ItemByte.{ItemByte}
@@ -88,8 +88,3 @@ pub record Leaves (s : List ℕ) (p e : ℕ) (f : Part) (r : Past) : Type 0 wher
 abbrev pub orStay : ℕ → Past → ℕ
 orStay p Missing = p
 orStay p (At q) = q
-
--- opens the definitions of this file and of those it stands on, for computed examples
-unfoldable pub OpenBullets : Type 1
-unfolding OpenItems bulletOf isBullet bulletDetail afterMarks marksEnd
-OpenBullets = Type 0

@@ -10,7 +10,7 @@ use Rattle.text.specs.Lines.{Line, size, blankLine, indent, blanks}
 use Rattle.text.specs.Parts.{linesIn, lineIn, firstLine}
 use Rattle.text.specs.declared.line.LineSpan.{LineSpan}
 use Rattle.rules.specs.Items.{width}
-use Rattle.rules.specs.Lists.{together, itemLines, listOf, OpenLists}
+use Rattle.rules.specs.Lists.{together, itemLines, listOf}
 use Rattle.rules.specs.Known.{Knows}
 use Rattle.rules.specs.Findings.{InScope}
 use Rattle.rules.specs.declared.ahead.Further.{Further}
@@ -77,8 +77,3 @@ pub record ListIn (s : List ℕ) (l : LineSpan) (w : ℕ) (c : Scope) : Type 0 w
   pub first : InScope s l c
   pub limit : c .end ≤ textLimit
   pub wide : w ≡ width (lineIn s (l .start) (c .end))
-
--- opens the definitions of this file and of those it stands on, for computed examples
-unfoldable pub OpenScans : Type 1
-unfolding OpenLists runBy togetherRun itemRun listRun nextOf
-OpenScans = Type 0

@@ -15,7 +15,7 @@ use Rattle.table.specs.Makers.{documentRecord, headingRecord, sectionRec
 
 -- What container c, of index q, holds from byte p on; the first record has index k. n only makes the recursion end: it is more than twice
 -- the range's length, which falls at each call but the one for a table's rows, which hold nothing, and the one for a list's items, each of which
--- is shorter than the list.
+-- holds less than the list does.
 unfoldable pub contents : ℕ → List ℕ → Record → ℕ → ℕ → ℕ → List Record
 contents zero s c q p k = []
 contents (suc n) s c q p k =

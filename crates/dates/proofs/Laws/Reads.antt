@@ -3,7 +3,7 @@
 use mathlib.Core.Path.{_≡_, refl, sym, ap, _∙_}
 use mathlib.Core.Bool.{Bool, true, false, _&&_, and-false, false≢true}
 use mathlib.Core.List.{List, [], _∷_}
-use mathlib.Core.Option.{Option, none, some}
+use mathlib.Core.Option.{none, some}
 use Prim.Native.Nat.{ℕ, suc, _+_, _*_, _-_, _^_, _≤_, _<_}
 use native.Mathlib.Omega.{arith}
 use native.Mathlib.Nat.{pow-suc, pow-le-pow-right}
@@ -18,7 +18,7 @@ use Rattle.text.specs.Runs.{isEmpty, run, afterRun, begins}
 use Rattle.text.specs.Parts.{part}
 use Rattle.text.proofs.Laws.Parts.{part-nil, part-cons, part-length, part-drop, part-take}
 use Rattle.text.proofs.Laws.Runs.{afterRun-drop, run-part-to, begins-short}
-use Rattle.dates.specs.Reads.{expect, gap, fits, shaped, digit, valueFrom, Reads, Ends}
+use Rattle.dates.specs.Reads.{expect, gap, fits, shaped, digit, valueFrom, Reads}
 
 -- ---- no bytes, or some
 
@@ -115,9 +115,3 @@ value-bound v k d h i = let e = pow-suc 10 k in let n : k + 1 ≡ suc k = omega 
 -- so eight digits leave room for one more
 pub value-small : (v k : ℕ) → v < 10 ^ k → k ≤ 8 → v < 100000000
 value-small v k h i = omega (arith, pow-le-pow-right {n = 10} (omega arith) {i = k} {j = 8} i)
-
--- ---- what starts later and ends there
-
-pub ends-from : {A : Type 0} (o : Option (A × ℕ)) (p q e : ℕ) → p ≤ q → Ends q e o → Ends p e o
-ends-from none p q e h w = tt
-ends-from (some r) p q e h w = (omega arith, w .1)

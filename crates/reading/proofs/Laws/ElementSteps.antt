@@ -12,7 +12,7 @@ use borrow.Table.Steps.{cases}
 use borrow.Author.Tests.{eqb-true, eqb-false, ne-eqb}
 use Rattle.text.specs.Lines.{size, blankLine, headLine, tailLines}
 use Rattle.text.specs.Parts.{linesIn, lineIn, firstLine, LineStart, nextLine}
-use Rattle.text.proofs.Laws.Lines.{size-take-add, tailLines-drop, leading-le}
+use Rattle.text.proofs.Laws.Lines.{headLine-take, size-take-add, tailLines-drop, leading-le}
 use Rattle.text.proofs.Laws.LinesIn.{within-linesIn, some-linesIn, linesIn-drop, linesIn-take, linesIn-step}
 use Rattle.text.proofs.Laws.LinesIn.{firstLine-none, firstLine-here}
 use Rattle.rules.specs.Kind
@@ -37,7 +37,7 @@ use Rattle.rules.proofs.Laws.PropertyDrawers.{element-only, propertyDrawer-inne
 use Rattle.reading.specs.Walk.{innerPlace, linesTo, Range, ItemsIn}
 use Rattle.table.proofs.Basics.{split}
 use Rattle.reading.proofs.Laws.NextPlaces.{placeAt-first, own-place, some-place, nextPlace-blank}
-use Rattle.reading.proofs.Laws.Ranges.{property-between, table-rows, run-between, headLine-take, first-nonblank, line-start, end-to, end-start, next-from, rest, inner-order, first-inner, from-is, to-is, from-some, from-start, to-start, inner-range, plain-lines, range-of, Held}
+use Rattle.reading.proofs.Laws.Ranges.{property-between, table-rows, run-between, first-nonblank, line-start, end-to, end-start, next-from, rest, inner-order, first-inner, from-is, to-is, from-some, from-start, to-start, inner-range, plain-lines, range-of, Held}
 use Rattle.rules.proofs.Laws.InLists.{list-first as items-first}
 
 module _ (s : List ℕ) (p e : ℕ) (R : Range s p e) (h : p < e) (whole : R .line ≡ p) where

@@ -16,7 +16,7 @@ use Rattle.text.proofs.Laws.LineNumbers.{lineNumber-inside}
 use Rattle.text.specs.Lines.{Line, size, blankLine, headLine}
 use Rattle.text.specs.Parts.{linesIn, lineIn, firstLine, nextLine, LineStart}
 use Rattle.rules.specs.Headings.{isHeading}
-use Rattle.text.proofs.Laws.Lines.{size-headLine, size-take-mono}
+use Rattle.text.proofs.Laws.Lines.{size-headLine, headLine-take, size-take-mono}
 use Rattle.text.proofs.Laws.LinesIn.{lineIn-some, linesIn-take, firstLine-here, firstLine-skip, firstLine-twice, firstLine-from, firstLine-to}
 use Rattle.text.proofs.Laws.LineStarts.{lineStart-to, lineStart-first}
 use Rattle.text.proofs.Laws.MidLine.{lineIn-same}
@@ -37,7 +37,7 @@ use Rattle.rules.proofs.Laws.InLine.{isInLine-yes, placeAt-inside}
 use Rattle.rules.proofs.Laws.InLists.{ListStepping, list-step}
 use Rattle.rules.proofs.Laws.ItemLines.{itemStart-left}
 use Rattle.rules.proofs.Laws.Items.{itemStart-le, itemStart-some}
-use Rattle.rules.proofs.Laws.Rests.{Rest, First, rest-head, rest-some, headLine-take}
+use Rattle.rules.proofs.Laws.Rests.{Rest, First, rest-head, rest-some}
 use Rattle.rules.proofs.Laws.Scans.{list-gapped}
 use Rattle.reading.specs.Walk.{linesTo, innerPlace, Range, ItemsIn}
 use Rattle.table.proofs.Basics.{split}

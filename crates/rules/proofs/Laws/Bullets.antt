@@ -1,7 +1,7 @@
 -- Laws of what the code finds on an item line, from byte p up to byte e: each part by its first byte, and what follows it on the line.
 -- Assumes nothing.
 use mathlib.Core.Path.{_≡_, refl, sym, ap, _∙_}
-use mathlib.Core.Bool.{Bool, true, false, not, true≢false, false≢true}
+use mathlib.Core.Bool.{Bool, true, false, not, false≢true}
 use mathlib.Core.List.{List, [], _∷_}
 use mathlib.Core.Logic.{_⊎_, inl, inr, ⊎-elim}
 use mathlib.Core.Option.{Option, none, some, Option·getD}
@@ -27,7 +27,6 @@ use Rattle.rules.specs.Items.{Part, afterByte, afterCounter, isEnded, en
 use Rattle.rules.specs.Items.{orThen, afterBullet, isItem, listDetail, isByte, isBoxByte, afterSet, afterBox, past, itemText, itemStart}
 use Rattle.rules.specs.Bullets.{bulletOf, bulletEnd, isBullet, bulletDetail, afterMarks, marksEnd, itemTest, afterLast}
 use Rattle.rules.specs.Bullets.{leftAt, OnLine, FoundOn, Leaves, orStay}
-use Rattle.rules.specs.declared.item.Bullet.{Bullet}
 use Rattle.rules.specs.declared.item.Bullet.the-variants.{Sign, Number, Nothing}
 use Rattle.rules.specs.declared.item.ItemByte.{ItemByte}
 use Rattle.rules.specs.declared.item.ItemByte.the-variants as Bytes
@@ -344,27 +343,9 @@ module _ (p : ℕ) (l : Line) where
       (λ y k. rw (bulletOf-number p l y h k, k, listDetail)))
       (λ y h. rw (bulletOf-sign p l y h, sign-number _ _ y h, listDetail))
 
-  pub item-sign : (q : ℕ) → Sign q ≡ bulletOf p l → (isItem l ≡ true) × (listDetail l ≡ 2)
-  unfolding isBullet bulletDetail
-  item-sign q h = (isItem-bullet ∙ ap isBullet (sym h), listDetail-bullet ∙ ap bulletDetail (sym h))
-
-  pub item-number : (q : ℕ) → Number q ≡ bulletOf p l → (isItem l ≡ true) × (listDetail l ≡ 1)
-  unfolding isBullet bulletDetail
-  item-number q h = (isItem-bullet ∙ ap isBullet (sym h), listDetail-bullet ∙ ap bulletDetail (sym h))
-
   pub item-nothing : Nothing ≡ bulletOf p l → isItem l ≡ false
   unfolding isBullet
   item-nothing h = isItem-bullet ∙ ap isBullet (sym h)
-
-  -- the other way
-  isBullet-none : (b : Bullet) → isBullet b ≡ false → b ≡ Nothing
-  unfolding isBullet
-  isBullet-none (Sign q) h = absurd (true≢false h)
-  isBullet-none (Number q) h = absurd (true≢false h)
-  isBullet-none Nothing h = refl
-
-  pub nothing-item : isItem l ≡ false → bulletOf p l ≡ Nothing
-  nothing-item h = isBullet-none (bulletOf p l) (sym isItem-bullet ∙ h)
 
 -- ---- what is left of some bytes is the end of them
 
@@ -489,9 +470,6 @@ module _ (s : List ℕ) (p e q : ℕ) (h : p < e) (k : e ≤ length s) (n : ℕ)
     bullet-order =
         let f = bullet-after p item q i in
         omega (arith, f .at, afterBullet-less item (f .left) (f .is) (lineIn-some s p e h k))
-
-    pub bullet-rest : afterBullet item ≡ some (lineIn s q n)
-    bullet-rest = let f = bullet-after p item q i in f .is ∙ ap some (sym (rest-is (f .left) (f .is) (f .at)))
 
     -- where what is left on the line starts
     pub start-is : (r : ℕ) → r ≡ marksEnd q (lineIn s q n) → r ≡ p + itemStart item

@@ -11,7 +11,7 @@ use lib.Seq.{take-all}
 use borrow.Table.Steps.{cases}
 use Rattle.text.specs.Lines.{Line, size, blankLine, headLine, tailLines}
 use Rattle.text.specs.Parts.{linesIn, lineIn, firstLine, LineStart}
-use Rattle.text.proofs.Laws.Lines.{size-headLine, size-take-mono}
+use Rattle.text.proofs.Laws.Lines.{size-headLine, headLine-take, size-take-mono}
 use Rattle.text.proofs.Laws.LinesIn.{linesIn-next, linesIn-take, linesIn-step, lineIn-to, lineIn-some, firstLine-here, firstLine-skip}
 use Rattle.text.proofs.Laws.LineStarts.{lineStart-in}
 use Rattle.text.proofs.Laws.MidLine.{lineIn-same}
@@ -29,7 +29,7 @@ use Rattle.rules.proofs.Laws.Passing.{Passes}
 use Rattle.rules.proofs.Laws.Steps.{Steps, element-steps, singles-less, singles-pass, singles-paragraph}
 use Rattle.rules.proofs.Laws.Prefixes.{SameFound}
 use Rattle.rules.proofs.Laws.ItemEnds.{paragraph-same, element-same}
-use Rattle.rules.proofs.Laws.Rests.{take-min, headLine-take, Rest, rest-to, rest-lines, rest-some, rest-pass, rest-end, First, rest-first}
+use Rattle.rules.proofs.Laws.Rests.{take-min, Rest, rest-to, rest-lines, rest-some, rest-pass, rest-end, First, rest-first}
 
 -- one finding's own lines are the other's, as far as there are lines
 same-lines : (n m k : ℕ) (x : List Line) → n ≡ min m k → length x ≤ k → take n x ≡ take m x

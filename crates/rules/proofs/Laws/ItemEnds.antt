@@ -13,7 +13,7 @@ use lib.Seq.{take-nil}
 use borrow.Table.Steps.{cases}
 use borrow.Author.Tests.{eq-eqb}
 use Rattle.text.specs.Lines.{Line, blankLine, headLine, tailLines}
-use Rattle.text.proofs.Laws.Lines.{blankLine-nil}
+use Rattle.text.proofs.Laws.Lines.{blankLine-nil, headLine-take}
 use Rattle.rules.specs.Kind
 use Rattle.rules.specs.Items.{isSome, width, isItem}
 use Rattle.rules.specs.Places.{allowsRules}
@@ -24,7 +24,6 @@ use Rattle.rules.specs.declared.place.Place.{Place}
 use Rattle.rules.proofs.Laws.Alone.{none-alone}
 use Rattle.rules.proofs.Laws.FirstOf.{orElse-none, firstOf-split}
 use Rattle.rules.proofs.Laws.Passing.{listLines-passes}
-use Rattle.rules.proofs.Laws.Rests.{headLine-take}
 use Rattle.rules.proofs.Laws.Scans.{split, withBlank-none, withBlank-some, itemLines-nil, itemLines-skip, itemLines-out, itemLines-in, itemLines-le}
 use Rattle.rules.proofs.Laws.Scans.{itemLines-pass, listLines-nil, listLines-skip, listLines-out, listLines-in, listLines-pass}
 use Rattle.rules.proofs.Laws.Scans.{Gapped, item-gapped, list-gapped}

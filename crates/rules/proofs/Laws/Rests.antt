@@ -1,10 +1,10 @@
 -- The scans for an item's and a list's lines in a text: what is left of an item or a list that ends at e, from byte b on, is what the scan finds
 -- there, among the lines up to h. It stays so past lines that the scan passes, and past the blank lines after them.
 -- Assumes nothing.
-use mathlib.Core.Path.{_≡_, refl, ap, _∙_}
+use mathlib.Core.Path.{_≡_, ap, _∙_}
 use mathlib.Core.Bool.{true, false}
-use mathlib.Core.List.{List, [], _∷_}
-use Prim.Native.Nat.{ℕ, zero, suc, _+_, _-_, _≤_, _<_, min}
+use mathlib.Core.List.{List, _∷_}
+use Prim.Native.Nat.{ℕ, suc, _+_, _-_, _≤_, _<_, min}
 use native.Mathlib.Omega.{arith}
 use lib.Dec.{leb}
 use lib.ListN.{length, take, drop, length-take}
@@ -13,7 +13,7 @@ use borrow.Table.Steps.{cases}
 use borrow.Author.Tests.{leb-true, leb-false}
 use Rattle.text.specs.Lines.{Line, size, blankLine, headLine, blanks}
 use Rattle.text.specs.Parts.{linesIn, lineIn, firstLine, LineStart}
-use Rattle.text.proofs.Laws.Lines.{size-take-add}
+use Rattle.text.proofs.Laws.Lines.{size-take-add, headLine-take}
 use Rattle.text.proofs.Laws.LineStarts.{lineStart-in, lineStart-first}
 use Rattle.text.proofs.Laws.LinesIn.{linesIn-nil, linesIn-drop, linesIn-take, linesIn-step, within-linesIn, lineIn-to}
 use Rattle.text.proofs.Laws.LinesIn.{firstLine-none, firstLine-here, firstLine-skip}
@@ -27,12 +27,6 @@ take-min n m ls = cases (leb n m)
     (λ i. let h = leb-true n m i in let e : min n m ≡ n = omega arith in rw e (take-take n m ls h))
     (λ i. let h = leb-false n m i in let e : min n m ≡ m = omega arith in
     rw e (take-all n (take m ls) (omega (arith, length-take m ls))))
-
-pub headLine-take : (m : ℕ) (ls : List Line) → 0 < m → headLine (take m ls) ≡ headLine ls
-unfolding headLine
-headLine-take zero ls h = absurd (omega arith)
-headLine-take (suc m) [] h = refl
-headLine-take (suc m) (l ∷ ls) h = refl
 
 -- an element ends with the blank lines after its own lines
 pub end-first : (s : List ℕ) (p e n : ℕ) → let ls = linesIn s p e in

@@ -71,6 +71,7 @@ detailCases =
     ∷ lineCase listDetail "- a" 2
     ∷ lineCase listDetail "+" 2
     ∷ lineCase listDetail "\t* a" 2
+    ∷ lineCase listDetail "\r1. a" 2
     ∷ []
 
 -- what is left after a bullet; all of the line is before it where no bullet stands
@@ -95,6 +96,7 @@ unfoldable pub setCases : List Case
 setCases =
     lineCase itemStart "- [@5] a" 7
     ∷ lineCase itemStart "-  [@5]\t\r a" 10
+    ∷ lineCase itemStart "-\r[@5] a" 7
     ∷ lineCase itemStart "1. [@12] a" 9
     ∷ lineCase itemStart "- [@a] b" 7
     ∷ lineCase itemStart "- [@Z]\n" 6
