@@ -267,13 +267,15 @@ pub const LIST_ENDS: &[&[u8]] = &[
 
 #[rustfmt::skip]
 pub const BULLETS: &[&[u8]] = &[
-    b"-", b"-", b"-", b"-", b"+", b"+", b"*", b"1.", b"2)", b"0123456789.", b"a.", b"B)", b"-", b"1)",
+    b"-", b"-", b"-", b"-", b"+", b"+", b"*", b"1.", b"2)", b"0123456789.", b"a.", b"B)", b"-", b"1)", b"z)", b"19.",
+    b"90)",
 ];
 
 /// What just misses.
 #[rustfmt::skip]
 pub const NO_BULLETS: &[&[u8]] = &[
-    b"--", b"1", b"ab.", b"1a)", b"-----", b"----", b"\r-", b"**", b".", b"(1)", b"\xE9.",
+    b"--", b"1", b"ab.", b"1a)", b"-----", b"----", b"\r-", b"**", b".", b"(1)", b"\xE9.", b"12a)", b"1-.", b"{.",
+    b"`)",
 ];
 
 /// What may follow a bullet; the last two make none of it.
@@ -285,7 +287,7 @@ pub const AFTER_BULLETS: &[&[u8]] = &[
 /// Counter sets, and some that just miss.
 #[rustfmt::skip]
 pub const COUNTER_SETS: &[&[u8]] = &[
-    b"[@5] ", b"[@a] ", b"[@Z]\t", b"[@012]  ", b"[@5]", b"[@] ", b"[@ab] ", b"[@5 ] ", b"[5] ",
+    b"[@5] ", b"[@a] ", b"[@Z]\t", b"[@012]  ", b"[@5]", b"[@] ", b"[@ab] ", b"[@5 ] ", b"[5] ", b"[@1a] ", b"[@{] ",
 ];
 
 /// Check boxes, and some that just miss.
