@@ -1,4 +1,4 @@
--- The numbers of an answer  [01 "Numbers of an answer", 02 orders 1 and 2].
+-- The numbers of an answer  [01 "Numbers of an answer", 02 orders 1, 2 and 5].
 use Prim.Native.Nat.{ℕ}
 
 abbrev pub done : ℕ
@@ -36,3 +36,18 @@ notClosed = 10
 
 abbrev pub noDay : ℕ
 noDay = 11
+
+abbrev pub badOrder : ℕ
+badOrder = 12
+
+abbrev pub badText : ℕ
+badText = 13
+
+abbrev pub badName : ℕ
+badName = 14
+
+abbrev pub repeatedKey : ℕ
+repeatedKey = 15
+
+abbrev pub shortOutput : ℕ
+shortOutput = 16

@@ -22,3 +22,13 @@ pub const NOT_PROPERTY: u32 = 9;
 pub const NOT_CLOSED: u32 = 10;
 
 pub const NO_DAY: u32 = 11;
+
+pub const BAD_ORDER: u32 = 12;
+
+pub const BAD_TEXT: u32 = 13;
+
+pub const BAD_NAME: u32 = 14;
+
+pub const REPEATED_KEY: u32 = 15;
+
+pub const SHORT_OUTPUT: u32 = 16;

@@ -1,0 +1,10 @@
+pub mod Order
+pub mod Buffer
+pub mod Form
+pub mod Faults
+pub mod Sheet
+pub mod Output
+pub mod Spans
+pub mod Answers
+pub mod Table
+pub mod Promises
