@@ -22,6 +22,8 @@ use Rattle.dates.specs.declared.stamp.Date.{Date}
 use Rattle.dates.specs.declared.stamp.Timestamp.{Timestamp}
 use Rattle.dates.specs.declared.planning.Planning.{Planning}
 use Rattle.lookup.specs.Planning as Planned
+use Rattle.sheet.specs.Promises as Sheet
+use Rattle.sheet.specs.declared.write.Written as SheetAnswer
 use Rattle.comaltzex.specs.Stamps.{stampNumbers}
 use Rattle.comaltzex.specs.declared.DayCount.{DayCount}
 use Rattle.comaltzex.specs.declared.FoundStamp.{FoundStamp}
@@ -30,10 +32,11 @@ use Rattle.comaltzex.specs.declared.Reading.{Reading}
 use Rattle.comaltzex.specs.declared.value.Value.{Value}
 use Rattle.comaltzex.specs.declared.value.SourcedValue.{SourcedValue}
 use Rattle.comaltzex.specs.declared.ClosingLine.{ClosingLine}
+use Rattle.comaltzex.specs.declared.Written.{Written}
 
 -- the version of the interface: another one whenever an answer, the record's width or a function's signature changes, or a function is added
 abbrev pub version : ℕ
-version = 7
+version = 8
 
 -- a closer in numbers: whether there is one, and its line's ends; all 0 where there is none
 abbrev pub foundNumber : Closer → ℕ
@@ -102,3 +105,10 @@ plan n p = record { number = n; closed = stampNumbers (p .closed); deadline = st
 -- those of the heading line that starts at byte p of text s
 abbrev pub planAt : List ℕ → ℕ → Plan
 planAt s p = let a = Planned.planning s p in plan (Planned.number a) (Planned.stamps a)
+
+-- a sheet call with order buffer x and lent output t answers r and leaves t′  [02 order 5]
+pub record WritesAs (x t : List ℕ) (r : Written) (t′ : List ℕ) : Type 0 where
+  pub answer : SheetAnswer.Written
+  pub settled : Sheet.Settled x t answer t′
+  pub number : r .number ≡ answer .number
+  pub count : r .count ≡ answer .count

@@ -4,7 +4,7 @@ ghost use Rattle.text.specs.Number;
 ghost use Rattle.dates.specs.Stamps.{dateOf};
 ghost use Rattle.dates.specs.Planning.{noStamps};
 ghost use Rattle.table.specs.Records.{recordSize};
-ghost use Rattle.comaltzex.specs.Numbers.{ReadsAs, LooksUpAs, SourcesAs, SearchesAs, CountsAs, foundStamp, stampAt, plan, planAt, version};
+ghost use Rattle.comaltzex.specs.Numbers.{ReadsAs, LooksUpAs, SourcesAs, SearchesAs, CountsAs, WritesAs, foundStamp, stampAt, plan, planAt, version};
 
 pub mod stamp;
 pub mod value;
@@ -29,11 +29,12 @@ use reading::answer::Answer;
 use reading::read::read;
 use rules::closer::Closer;
 use rules::opener::search_from;
+use sheet::write::write_sheet;
 use table::record;
 use text::number;
 
 // The version of this interface, as specs/Numbers has it.
-const VERSION: u32 = 7;
+const VERSION: u32 = 8;
 
 // Both ends of a line that was not found.
 const NOWHERE: usize = 0;
@@ -243,6 +244,25 @@ fn no_plan(number: u32) -> Plan
         closed: stamp_numbers(Timestamp::Nothing),
         deadline: stamp_numbers(Timestamp::Nothing),
         scheduled: stamp_numbers(Timestamp::Nothing),
+    }
+}
+
+// The number of a sheet's answer and its count.
+#[repr(C)]
+pub struct Written {
+    pub number: u32,
+    pub count: usize,
+}
+
+// Writes an order's sheet into a lent output.
+#[no_mangle]
+pub extern "C" fn comaltzex_write_sheet(order: &[u8], out: &mut [u8]) -> Written
+    ensures { λ r. ⌜ WritesAs (now (order .entry)) (now (out .entry)) r (now (out .exit)) ⌝ }
+{
+    let written = write_sheet(order, out);
+    Written {
+        number: written.number,
+        count: written.count,
     }
 }
 

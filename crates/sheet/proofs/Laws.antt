@@ -5,12 +5,13 @@ pub mod Spans
 pub mod Pairs
 pub mod Layout
 pub mod Faults
-pub mod Verdict
 pub mod Judged
 pub mod Answers
 pub mod SameKeys
-pub mod Sizes
+pub mod GoodTexts
 pub mod Lines
+pub mod Names
+pub mod Sizes
 pub mod PairLines
 pub mod Sheets
 pub mod Lookups

@@ -1,4 +1,4 @@
--- What is promised of a sheet.
+-- What is promised of a buffer and of its sheet. From Forms, Lookups, Tables and Flat; that a key is looked up in letters of any case, from SameKeys.
 use mathlib.Core.Path.{_≡_, sym, ap, _∙_}
 use mathlib.Core.Bool.{true, false}
 use mathlib.Core.List.{List, []}

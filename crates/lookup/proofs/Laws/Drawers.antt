@@ -81,7 +81,7 @@ module _ (ls : List Line) where
     unfolding isNotProperties
     opened-properties = rw o
 
-    opened-drawer : (n : ℕ) → propertiesBefore rest ≡ some n → propertyDrawer AfterHeading ls ≡ some (found Kind.propertyDrawer (n + 2) 0)
+    pub opened-drawer : (n : ℕ) → propertiesBefore rest ≡ some n → propertyDrawer AfterHeading ls ≡ some (found Kind.propertyDrawer (n + 2) 0)
     unfolding propertyDrawer allowsProperties
     opened-drawer n h = rw (o, propertyDrawer, h)
 

@@ -53,21 +53,23 @@ pairsIn-given : (ps : List PairEntry) → pairsIn (length ps) (pairBytes ps) ≡
 unfolding pairsIn pairBytes pairsOf isEmpty
 pairsIn-given [] = refl
 pairsIn-given (p ∷ ps) =
-    rw (sized-given keyWidth (p .key) (p .value .head ++ (p .value .bytes ++ pairBytes ps)), sized-given textWidth (p .value) (pairBytes ps), pairsIn-given ps)
+    let v = p .value in
+    rw (sized-given keyWidth (p .key) (v .head ++ (v .bytes ++ pairBytes ps)), sized-given textWidth v (pairBytes ps), pairsIn-given ps)
 
--- a pair, and the bytes after it
-pairIn-only : (x : List ℕ) (c : PairCut) (y : List ℕ) → pairIn x ≡ some c → y ≡ c .rest
-    → (p : PairEntry) × ((p .key .head ++ (p .key .bytes ++ (p .value .head ++ (p .value .bytes ++ y))) ≡ x) × (pair (p .key .bytes) (p .value .bytes) ≡ c .first))
-unfolding pairIn
-pairIn-only x c y h i =
+-- a pair, and the bytes after it, which are pairs again
+pairIn-only : (x : List ℕ) (c : PairCut) (ps : List PairEntry) → pairIn x ≡ some c → pairBytes ps ≡ c .rest
+    → (p : PairEntry) × ((pairBytes (p ∷ ps) ≡ x) × (pair (p .key .bytes) (p .value .bytes) ≡ c .first))
+unfolding pairIn pairBytes
+pairIn-only x c ps h i =
     let (k, (j, l)) = andThen-only (sized keyWidth x) _ c h in
     let (v, (m, n)) = andThen-only (sized textWidth (k .rest)) _ c l in
     let (a, (a0, a1)) = sized-only keyWidth x k j in
     let (b, (b0, b1)) = sized-only textWidth (k .rest) v m in
-    let r : y ≡ v .rest = cc in
+    let r : pairBytes ps ≡ v .rest = cc in
     (record { key = a; value = b }, (rw (r, b0) a0, cc))
 
-pairsIn-only : (n : ℕ) (x : List ℕ) (qs : List Pair) → pairsIn n x ≡ some qs → (ps : List PairEntry) × ((pairBytes ps ≡ x) × (pairsOf ps ≡ qs) × (length ps ≡ n))
+pairsIn-only : (n : ℕ) (x : List ℕ) (qs : List Pair) → pairsIn n x ≡ some qs
+    → (ps : List PairEntry) × ((pairBytes ps ≡ x) × (pairsOf ps ≡ qs) × (length ps ≡ n))
 unfolding pairsIn pairBytes pairsOf isEmpty
 pairsIn-only zero [] qs h = ([], (refl, (cc), refl))
 pairsIn-only zero (b ∷ x) qs h = absurd (some-none qs (sym h))
@@ -75,12 +77,12 @@ pairsIn-only (suc n) x qs h =
     let (c, (i, j)) = andThen-only (pairIn x) _ qs h in
     let (rs, (k, l)) = andThen-only (pairsIn n (c .rest)) _ qs j in
     let (ps, (p0, p1, p2)) = pairsIn-only n (c .rest) rs k in
-    let (p, (a0, a1)) = pairIn-only x c (pairBytes ps) i p0 in
+    let (p, (a0, a1)) = pairIn-only x c ps i p0 in
     (p ∷ ps, (a0, (cc), ap suc p2))
 
 -- ---- the buffer
 
-fewPairsIn-given : (n : ℕ) (x : List ℕ) → n ≤ pairLimit → fewPairsIn n x ≡ pairsIn n x
+pub fewPairsIn-given : (n : ℕ) (x : List ℕ) → n ≤ pairLimit → fewPairsIn n x ≡ pairsIn n x
 unfolding fewPairsIn
 fewPairsIn-given n x h = rw (le-leb n pairLimit h, fewPairsIn)
 

@@ -1,8 +1,9 @@
--- What a buffer's judgement says: the number of a refusal is 12 or more, and a good order has no bad text, no bad name and no repeated key. Each test
--- is taken off in its turn.
+-- Laws of a buffer's judgement: which it is, by 12, 13, 14 and 15 in turn; and what it says: a refusal's number is 12 or more, and a good order
+-- has no bad text, no bad name and no repeated key.
 use mathlib.Core.Path.{_≡_, refl, sym}
 use mathlib.Core.Bool.{Bool, true, false}
 use mathlib.Core.List.{List, [], _∷_}
+use mathlib.Core.Option.{none, some}
 use Prim.Native.Nat.{ℕ, _≤_}
 use native.Mathlib.Omega.{arith}
 use Rattle.text.specs.Number
@@ -13,14 +14,40 @@ use Rattle.sheet.specs.Order.{Pair, Order, somePair}
 use Rattle.sheet.specs.Buffer.{orderIn}
 use Rattle.sheet.specs.Faults.{isBadText, hasBadText, isBadName, hasBadName, repeats, Judged, Refused, Good, refuseIf, judgedOrder, judged}
 
-pub judged-cases {χ} : {A : Type χ} (j : Judged) → ((n : ℕ) → j ≡ Refused n → A) → ((o : Order) → j ≡ Good o → A) → A
-judged-cases (Refused n) f g = f n refl
-judged-cases (Good o) f g = g o refl
+-- ---- each in its turn
+
+pub judged-none : (x : List ℕ) → orderIn x ≡ none → judged x ≡ Refused Number.badOrder
+unfolding judged
+judged-none x h = rw (h, judged)
+
+module _ (x : List ℕ) (o : Order) (h : orderIn x ≡ some o) where
+  pub judged-title : isBadText (o .title) ≡ true → judged x ≡ Refused Number.badText
+  unfolding judged judgedOrder hasBadText
+  judged-title i = rw (h, judged, i)
+
+  module _ (i : isBadText (o .title) ≡ false) where
+    pub judged-value : somePair (λ p. isBadText (p .value)) (o .pairs) ≡ true → judged x ≡ Refused Number.badText
+    unfolding judged judgedOrder hasBadText
+    judged-value j = rw (h, judged, i, j)
+
+    module _ (j : somePair (λ p. isBadText (p .value)) (o .pairs) ≡ false) where
+      pub judged-name : somePair (λ p. isBadName (p .key)) (o .pairs) ≡ true → judged x ≡ Refused Number.badName
+      unfolding judged judgedOrder hasBadText hasBadName
+      judged-name k = rw (h, judged, i, j, k)
+
+      module _ (k : somePair (λ p. isBadName (p .key)) (o .pairs) ≡ false) where
+        pub judged-repeated : repeats (o .pairs) ≡ true → judged x ≡ Refused Number.repeatedKey
+        unfolding judged judgedOrder hasBadText hasBadName
+        judged-repeated l = rw (h, judged, i, j, k, l)
+
+        pub judged-accepted : repeats (o .pairs) ≡ false → judged x ≡ Good o
+        unfolding judged judgedOrder hasBadText hasBadName
+        judged-accepted l = rw (h, judged, i, j, k, l)
+
+-- ---- a refusal
 
 refused-good : (n : ℕ) (o : Order) → Refused n ≡ Good o → ⊥
 refused-good n o h = let z : _≡_ {A = ℕ} 0 1 = cc in omega arith
-
--- ---- a refusal
 
 refuseIf-number : (b : Bool) (m : ℕ) (j : Judged) (n : ℕ) → Number.badOrder ≤ m → (j ≡ Refused n → Number.badOrder ≤ n) → refuseIf b m j ≡ Refused n
     → Number.badOrder ≤ n

@@ -1,4 +1,5 @@
--- Laws of lines put one after another, of the line that ends a word, and of a value's bytes in its line.
+-- Laws of bytes and lines that say nothing of orders: bytes that pass a test, whole lines put one after another, lines in a part of a text, and a
+-- value's bytes in its line.
 use mathlib.Core.Path.{_≡_, refl, sym, ap, _∙_}
 use mathlib.Core.Bool.{Bool, true, false, not}
 use mathlib.Core.List.{List, [], _∷_, _++_, append-assoc}

@@ -1,5 +1,5 @@
--- What is looked up in a good order's sheet: the drawer is found after the heading line; in it the first line whose name is the key is the only one, for
--- no key is repeated, and its value's bytes are the pair's.
+-- What is looked up in a good order's sheet: the drawer is found after the heading line; in it the first line whose name is the key is the only one,
+-- for no key is repeated, and its value's bytes are the pair's.
 use mathlib.Core.Path.{_≡_, refl, sym, ap, _∙_}
 use mathlib.Core.Bool.{Bool, true, false, true≢false}
 use mathlib.Core.List.{List, [], _∷_}
@@ -86,7 +86,9 @@ module _ (k : List ℕ) where
     value-bytes : (p : ℕ) (x : Pair) (ls : List Line) → GoodPair x → p ≤ e → linesIn s p e ≡ pairLine x ∷ ls
         → let a = p + valueStart (length (firstRun (body (pairLine x)))) (pairLine x) in
         part s a (p + bodyEnd (pairLine x)) ≡ x .value
-    value-bytes p x ls y h i = rw (lineIn-head s p e _ _ i) at (value-part s p e (length (firstRun (body (pairLine x)))) h inside) ∙ pairLine-value x y
+    value-bytes p x ls y h i =
+        let m = length (firstRun (body (pairLine x))) in
+        rw (lineIn-head s p e _ _ i) at (value-part s p e m h inside) ∙ pairLine-value x y
 
     pub valueIn-at : (p : ℕ) (ps : List Pair) (i : ℕ) → All GoodPair ps → repeats ps ≡ false → i < length ps → p ≤ e → linesIn s p e ≡ pairLines ps
         → same (getD ps i (pair [] []) .key) k ≡ true

@@ -1,80 +1,27 @@
 -- The lines of a good order: the title's is a heading line; a pair's has its body, its name and its value as they were put in. All of it from the
 -- shape of the line: `:`, the key, `:`, the value after a space, byte 10.
-use mathlib.Core.Path.{_≡_, refl, sym, ap, _∙_}
-use mathlib.Core.Bool.{true, false, not, _||_, true≢false, false≢true}
+use mathlib.Core.Path.{_≡_, refl, sym, _∙_}
+use mathlib.Core.Bool.{true, false, true≢false}
 use mathlib.Core.List.{List, [], _∷_, _++_, append-assoc}
 use Prim.Native.Nat.{ℕ, _+_, _-_, _≤_, _<_}
 use native.Mathlib.Omega.{arith}
-use lib.Dec.{eqb, ltb}
 use lib.ListN.{length, drop, length-append}
 use lib.Seq.{drop-append-seam}
-use borrow.Author.Tests.{not-true, not-false}
 use borrow.Table.Steps.{cases}
-use Rattle.text.specs.Limits.{keyLimit}
 use Rattle.text.specs.Bytes.{isNewline, isStar, isBlank, isIndent, isNonBlank, lower}
-use Rattle.text.specs.Runs.{word, all, isEmpty, run, afterRun, consUnlessEnd, trimEnd, same}
+use Rattle.text.specs.Runs.{word, all, run, afterRun, trimEnd, same}
 use Rattle.text.specs.Lines.{blankLine, indent, body, bodyEnd, firstRun, valueStart}
 use Rattle.text.proofs.Laws.Runs.{trimEnd-blank}
-use Rattle.rules.specs.Names.{endsIn, allButLast, betweenColons}
 use Rattle.rules.specs.Headings.{stars, isHeading}
-use Rattle.rules.specs.LineTests.{isEndLine, dropPlus, propertyName, isNodeProperty}
-use Rattle.rules.proofs.Basics.{and-yes, or-no}
-use Rattle.lookup.specs.Stages.{isBadKey}
+use Rattle.rules.specs.LineTests.{isEndLine, propertyName, isNodeProperty}
 use Rattle.sheet.specs.Order.{Pair}
-use Rattle.sheet.specs.Faults.{isBreak, hasBreak, startsBlank, endsBlank, isBadText}
-use Rattle.sheet.specs.Sheet.{titleLine, spaced, markedKey, pairLine}
+use Rattle.sheet.specs.Faults.{startsBlank, isBadText}
+use Rattle.sheet.specs.Sheet.{titleLine, markedKey, spaced, pairLine}
+use Rattle.sheet.proofs.Laws.GoodTexts.{GoodText, good-text, text-newline, text-trimmed, GoodKey, good-key, nonblank-newline}
 use Rattle.sheet.proofs.Laws.Judged.{GoodPair}
 use Rattle.sheet.proofs.Laws.Lines.{all-append, all-wider, run-append, trimEnd-append, NoNewline, Whole}
+use Rattle.sheet.proofs.Laws.Names.{betweenColons-marker, dropPlus-no, same-colon}
 use Rattle.sheet.proofs.Laws.SameKeys.{same-both}
-
--- ---- a good text
-
-record GoodText (x : List ℕ) : Type 0 where
-  breaks : hasBreak x ≡ false
-  starts : startsBlank x ≡ false
-  ends : endsBlank x ≡ false
-
-good-text : (x : List ℕ) → isBadText x ≡ false → GoodText x
-unfolding isBadText
-good-text x h =
-    let (a0, a1) = or-no (hasBreak x || startsBlank x) (endsBlank x) h in
-    let (b0, b1) = or-no (hasBreak x) (startsBlank x) a0 in
-    record { breaks = b0; starts = b1; ends = a1 }
-
-break-newline : (b : ℕ) → isBreak b ≡ false → isNewline b ≡ false
-unfolding isBreak isNewline
-break-newline b h = or-no (eqb b 10) (eqb b 13) h .0
-
-text-newline : (x : List ℕ) → hasBreak x ≡ false → NoNewline x
-unfolding hasBreak all
-text-newline [] h = refl
-text-newline (b ∷ x) h = let (h0, h1) = or-no (isBreak b) (hasBreak x) h in rw (break-newline b h0) (text-newline x h1)
-
--- nothing is trimmed at its end
-text-trimmed : (x : List ℕ) → hasBreak x ≡ false → endsBlank x ≡ false → trimEnd x ≡ x
-unfolding hasBreak endsBlank trimEnd isNonBlank
-text-trimmed [] h i = refl
-text-trimmed (b ∷ []) h i = rw (i, break-newline b (or-no (isBreak b) false h .0), consUnlessEnd)
-text-trimmed (b ∷ c ∷ x) h i = ap (consUnlessEnd b) (text-trimmed (c ∷ x) (or-no (isBreak b) _ h .1) i)
-
--- ---- a good key
-
-record GoodKey (k : List ℕ) : Type 0 where
-  some : isEmpty k ≡ false
-  nonblank : all isNonBlank k ≡ true
-  plus : endsIn 43 k ≡ false
-
-good-key : (k : List ℕ) → isBadKey k ≡ false → GoodKey k
-unfolding isBadKey
-good-key k h =
-    let blank = not (all isNonBlank k) in
-    let (a0, a1) = or-no (isEmpty k || ltb keyLimit (length k) || blank) (endsIn 43 k) h in
-    let (b0, b1) = or-no (isEmpty k || ltb keyLimit (length k)) blank a0 in
-    record { some = or-no (isEmpty k) (ltb keyLimit (length k)) b0 .0; nonblank = not-false _ b1; plus = a1 }
-
-nonblank-newline : (b : ℕ) → isNonBlank b ≡ true → not (isNewline b) ≡ true
-unfolding isNonBlank
-nonblank-newline b h = ap not (or-no (isBlank b) (isNewline b) (not-true _ h) .1)
 
 -- ---- the title's line
 
@@ -121,43 +68,6 @@ spaced-trimmed : (v : List ℕ) → trimEnd v ≡ v → trimEnd (58 ∷ spaced v
 unfolding spaced trimEnd isNonBlank
 spaced-trimmed [] h = refl
 spaced-trimmed (b ∷ v) h = rw h
-
--- ---- the name of a line
-
-betweenColons-marker : (k : List ℕ) → betweenColons (58 ∷ (k ++ (58 ∷ []))) ≡ k
-unfolding betweenColons endsIn allButLast
-betweenColons-marker k = rw (ends k, betweenColons) (front k)
-  where
-    ends : (x : List ℕ) → endsIn 58 (x ++ (58 ∷ [])) ≡ true
-    ends [] = refl
-    ends (a ∷ []) = refl
-    ends (a ∷ b ∷ x) = ends (b ∷ x)
-
-    front : (x : List ℕ) → allButLast (x ++ (58 ∷ [])) ≡ x
-    front [] = refl
-    front (a ∷ []) = refl
-    front (a ∷ b ∷ x) = ap (λ (y : List ℕ). a ∷ y) (front (b ∷ x))
-
-dropPlus-no : (k : List ℕ) → endsIn 43 k ≡ false → dropPlus k ≡ k
-unfolding dropPlus
-dropPlus-no k h = rw (h, dropPlus)
-
--- a word with no colon is the same as what stands before the last colon
-same-colon : (k w x : List ℕ) → all (λ c. not (eqb 58 (lower c))) w ≡ true → same (k ++ (58 ∷ x)) (w ++ (58 ∷ [])) ≡ true → same k w ≡ true
-unfolding same all lower
-same-colon [] [] x h i = refl
-same-colon [] (c ∷ w) x h i =
-    let h0 = and-yes (not (eqb 58 (lower c))) _ h .0 in
-    let i0 = and-yes (eqb 58 (lower c)) _ i .0 in
-    absurd (true≢false (sym i0 ∙ not-true _ h0))
-same-colon (b ∷ k) [] x h i = absurd (longer k (and-yes (eqb (lower b) 58) _ i .1))
-  where
-    longer : (k : List ℕ) → same (k ++ (58 ∷ x)) [] ≡ true → ⊥
-    longer [] h = false≢true h
-    longer (b ∷ k) h = false≢true h
-same-colon (b ∷ k) (c ∷ w) x h i =
-    let (i0, i1) = and-yes (eqb (lower b) (lower c)) _ i in
-    rw i0 (same-colon k w x (and-yes (not (eqb 58 (lower c))) _ h .1) i1)
 
 -- ---- a pair's line
 

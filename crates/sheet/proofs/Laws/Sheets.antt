@@ -1,5 +1,5 @@
--- A good order's sheet: its lines, where they stand, and that the drawer is what rule 2 finds after the heading line. No line holds a byte 10 before its
--- end, so that the text's lines are those that were joined.
+-- A good order's sheet: its lines, where they stand, and that the drawer is what rule 2 finds after the heading line. No line holds a byte 10 before
+-- its end, so that the text's lines are those that were joined.
 use mathlib.Core.Path.{_≡_, refl, ap, _∙_}
 use mathlib.Core.Bool.{true, false}
 use mathlib.Core.List.{List, [], _∷_, _++_}
@@ -20,10 +20,12 @@ use Rattle.rules.specs.Headings.{isHeading, OpenHeadings}
 use Rattle.rules.specs.Kind
 use Rattle.rules.specs.LineTests.{isPlanning, isPropertiesLine, isEndLine, OpenLineTests}
 use Rattle.rules.specs.Elements.{found, propertiesBefore, propertyDrawer}
-use Rattle.rules.specs.Places.{placeAt, allowsProperties}
+use Rattle.rules.specs.Places.{placeAt}
 use Rattle.rules.specs.declared.place.Place.the-variants.{AfterHeading}
 use Rattle.rules.proofs.Basics.{All, all-nil, all-cons, all-append}
+use Rattle.rules.proofs.Laws.Properties.{propertiesBefore-here, propertiesBefore-pass}
 use Rattle.rules.proofs.Laws.PropertyDrawers.{HeadingLine, placeAt-heading}
+use Rattle.lookup.proofs.Laws.Drawers.{opened-drawer}
 use Rattle.sheet.specs.Order.{Pair, Order}
 use Rattle.sheet.specs.Sheet.{titleLine, pairLine, pairLines, openLine, closeLine, sheetLines, sheet}
 use Rattle.sheet.proofs.Laws.Judged.{GoodPair, GoodOrder}
@@ -64,7 +66,7 @@ closeLine-end : isEndLine closeLine ≡ true
 unfolding OpenLineTests closeLine
 closeLine-end = refl
 
-pub openLine-some : 0 < length openLine
+openLine-some : 0 < length openLine
 unfolding OpenLines openLine
 openLine-some = omega arith
 
@@ -85,9 +87,10 @@ pairLines-length [] = refl
 pairLines-length (p ∷ ps) = ap suc (pairLines-length ps)
 
 propertiesBefore-close : (ps : List Pair) → All GoodPair ps → propertiesBefore (pairLines ps ++ (closeLine ∷ [])) ≡ some (length ps)
-unfolding pairLines propertiesBefore
-propertiesBefore-close [] h = rw (closeLine-end, propertiesBefore)
-propertiesBefore-close (p ∷ ps) (all-cons g h) = rw (pairLine-end p g, pairLine-node p g, propertiesBefore) (rw (propertiesBefore-close ps h))
+unfolding pairLines
+propertiesBefore-close [] h = propertiesBefore-here closeLine [] closeLine-end
+propertiesBefore-close (p ∷ ps) (all-cons g h) =
+    propertiesBefore-pass (pairLine p) (pairLines ps ++ (closeLine ∷ [])) (pairLine-end p g) (pairLine-node p g) ∙ rw (propertiesBefore-close ps h)
 
 -- ---- the sheet's lines
 
@@ -169,17 +172,20 @@ module _ (o : Order) (g : GoodOrder o) where
   sheet-place = rw (zero-add, sheet-titleLine) at (placeAt-heading s 0 sheet-headingLine)
 
   pub sheet-drawer : propertyDrawer AfterHeading (drawerLines o) ≡ some (found Kind.propertyDrawer (length (o .pairs) + 2) 0)
-  unfolding propertyDrawer allowsProperties headLine tailLines
-  sheet-drawer = rw (openLine-properties, propertyDrawer) (rw (propertiesBefore-close (o .pairs) (g .pairs)))
+  unfolding headLine tailLines
+  sheet-drawer = opened-drawer (drawerLines o) openLine-properties (length (o .pairs)) (propertiesBefore-close (o .pairs) (g .pairs))
 
   -- ---- its line numbers
+
+  pub sheet-some : a < e
+  sheet-some = omega (arith, sheet-size o, openLine-some)
 
   pub sheet-openNumber : lineNumber s a ≡ 1
   sheet-openNumber =
       let q : a ≡ 0 + length (lineIn s 0 e) = omega (arith, ap length sheet-titleLine) in
-      lineNumber-next s 0 e a (omega (arith, sheet-size o, openLine-some)) (omega arith) q (omega (arith, sheet-size o, openLine-some)) ∙ rw (lineNumber-zero s)
+      lineNumber-next s 0 e a (omega (arith, sheet-some)) (omega arith) q sheet-some ∙ rw (lineNumber-zero s)
 
   pub sheet-firstNumber : lineNumber s b ≡ 2
   sheet-firstNumber =
       let q : b ≡ a + length (lineIn s a e) = omega (arith, ap length (lineIn-head s a e openLine _ sheet-drawerLines)) in
-      lineNumber-next s a e b (omega (arith, sheet-size o, openLine-some)) (omega arith) q (omega (arith, sheet-size o, closeLine-some)) ∙ rw sheet-openNumber
+      lineNumber-next s a e b sheet-some (omega arith) q (omega (arith, sheet-size o, closeLine-some)) ∙ rw sheet-openNumber

@@ -1,5 +1,5 @@
--- The reading of a good order's sheet is its table: one heading, whose section is one property drawer, whose lines are the pairs'. Each record by the law
--- of the reading's step that makes it.
+-- The reading of a good order's sheet is its table: one heading, whose section is one property drawer, whose lines are the pairs'. Each record by the
+-- law of the reading's step that makes it.
 use mathlib.Core.Path.{_≡_, refl, sym, ap, _∙_}
 use mathlib.Core.Bool.{false}
 use mathlib.Core.List.{List, [], _∷_, append-nil}
@@ -36,8 +36,8 @@ use Rattle.sheet.specs.Table.{pairRecord, pairRecords, sheetTable}
 use Rattle.sheet.proofs.Laws.Judged.{GoodPair, GoodOrder}
 use Rattle.sheet.proofs.Laws.Lines.{size-append, lineIn-head, linesIn-tail}
 use Rattle.sheet.proofs.Laws.PairLines.{titleLine-stars, spaced-length, pairLine-blank, pairLine-some, pairLine-bodyEnd, pairLine-valueStart}
-use Rattle.sheet.proofs.Laws.Sheets.{openLine-blank, openLine-planning, openLine-some, pairLines-length, titleEnd, openEnd, closeStart, drawerLines, sheet-size, closeStart-is}
-use Rattle.sheet.proofs.Laws.Sheets.{sheet-titleLine, sheet-drawerLines, sheet-pairLines, sheet-headingLine, sheet-nextHeading, sheet-place, sheet-drawer, sheet-openNumber, sheet-firstNumber}
+use Rattle.sheet.proofs.Laws.Sheets.{openLine-blank, openLine-planning, pairLines-length, titleEnd, openEnd, closeStart, drawerLines, sheet-size, closeStart-is}
+use Rattle.sheet.proofs.Laws.Sheets.{sheet-titleLine, sheet-drawerLines, sheet-pairLines, sheet-headingLine, sheet-nextHeading, sheet-place, sheet-drawer, sheet-some, sheet-openNumber, sheet-firstNumber}
 
 -- ---- the node properties
 
@@ -51,17 +51,18 @@ unfolding pairLines blanks leading
 pairLines-blanks [] = refl
 pairLines-blanks (x ∷ ps) = rw (pairLine-blank x, leading)
 
+firstLine-pairs : (s : List ℕ) (p e : ℕ) (ps : List Pair) → linesIn s p e ≡ pairLines ps → firstLine s p e ≡ p
+unfolding firstLine size
+firstLine-pairs s p e ps h = rw (h, pairLines-blanks ps) (omega arith)
+
 pairRecord-leaf : (p n : ℕ) (x : Pair) → isHolder (pairRecord p n x .kind) ≡ false
 unfolding pairRecord isHolder
 pairRecord-leaf p n x = refl
 
 -- the lines of a property drawer c of text s
 module _ (s : List ℕ) (c : Record) (kind : c .kind ≡ Kind.propertyDrawer) (inside : c .to ≤ length s) where
-  firstLine-pairs : (p : ℕ) (ps : List Pair) → linesIn s p (c .to) ≡ pairLines ps → firstLine s p (c .to) ≡ p
-  unfolding firstLine size
-  firstLine-pairs p ps h = rw (h, pairLines-blanks ps) (omega arith)
-
-  childRecord-pair : (p : ℕ) (x : Pair) (ls : List Line) → GoodPair x → linesIn s p (c .to) ≡ pairLine x ∷ ls → childRecord s c 3 p ≡ pairRecord p (lineNumber s p) x
+  childRecord-pair : (p : ℕ) (x : Pair) (ls : List Line) → GoodPair x → linesIn s p (c .to) ≡ pairLine x ∷ ls
+      → childRecord s c 3 p ≡ pairRecord p (lineNumber s p) x
   unfolding lineRecord pairRecord innerOf innerFrom innerTo headLine size
   childRecord-pair p x ls g h =
       let e = p + length (x .key) + 2 + length (spaced (x .value)) in
@@ -72,8 +73,8 @@ module _ (s : List ℕ) (c : Record) (kind : c .kind ≡ Kind.propertyDrawer) (i
       childRecord-property s c 3 p kind ∙ rw (h, end, to, from)
 
   -- line n at byte p, where there is one
-  contents-pairs : (m p n k : ℕ) (ps : List Pair) → All GoodPair ps → length ps ≤ m → linesIn s p (c .to) ≡ pairLines ps → c .to ≡ p + size (pairLines ps)
-      → (p < c .to → lineNumber s p ≡ n) → contents m s c 3 p k ≡ pairRecords p n ps
+  contents-pairs : (m p n k : ℕ) (ps : List Pair) → All GoodPair ps → length ps ≤ m → linesIn s p (c .to) ≡ pairLines ps
+      → c .to ≡ p + size (pairLines ps) → (p < c .to → lineNumber s p ≡ n) → contents m s c 3 p k ≡ pairRecords p n ps
   unfolding pairLines pairRecords size
   contents-pairs m p n k [] g h i j l = contents-none m s c 3 p k (omega arith)
   contents-pairs zero p n k (x ∷ ps) g h i j l = absurd (omega arith)
@@ -137,9 +138,10 @@ module _ (o : Order) (g : GoodOrder o) where
   held-drawer : (m : ℕ) → n ≤ m → held m s drawerHere 3 ≡ pairRecords b 2 ps
   unfolding isHolder
   held-drawer m h =
+      let here = sheet-pairLines o g in
       held-yes m s drawerHere 3 refl
-      ∙ rw (firstLine-pairs s drawerHere refl (omega arith) b ps (sheet-pairLines o g))
-      (contents-pairs s drawerHere refl (omega arith) m b 2 4 ps (g .pairs) h (sheet-pairLines o g) (omega (arith, sheet-size o)) (λ l. sheet-firstNumber o g))
+      ∙ rw (firstLine-pairs s b t ps here)
+      (contents-pairs s drawerHere refl (omega arith) m b 2 4 ps (g .pairs) h here (omega (arith, sheet-size o)) (λ l. sheet-firstNumber o g))
 
   -- ---- the section
 
@@ -150,13 +152,11 @@ module _ (o : Order) (g : GoodOrder o) where
   unfolding childRecord
   childRecord-drawer = elementRecord-drawer
 
-  some-lines : a < e
-  some-lines = omega (arith, sheet-size o, openLine-some)
-
   contents-section : (m : ℕ) → n ≤ m → contents (suc m) s sectionHere 2 a 3 ≡ drawerHere ∷ pairRecords b 2 ps
   contents-section m h =
-      contents-step m s sectionHere 2 a 3 some-lines
-      ∙ rw (childRecord-drawer, held-drawer m h, contents-none m s sectionHere 2 e (4 + length (pairRecords b 2 ps)) (omega arith), append-nil (pairRecords b 2 ps))
+      let R = pairRecords b 2 ps in
+      contents-step m s sectionHere 2 a 3 (sheet-some o g)
+      ∙ rw (childRecord-drawer, held-drawer m h, contents-none m s sectionHere 2 e (4 + length R) (omega arith), append-nil R)
 
   -- ---- the heading
 
@@ -169,7 +169,7 @@ module _ (o : Order) (g : GoodOrder o) where
   nextLine-upTo : nextLine (isHeadingUpTo 1) s a ≡ e
   nextLine-upTo =
       let from = nextLine-wider s (isHeadingUpTo 1) isHeading a (upTo-heading 1) in
-      let to = nextLine-to s (isHeadingUpTo 1) a (omega (arith, some-lines)) in
+      let to = nextLine-to s (isHeadingUpTo 1) a (omega (arith, sheet-some o g)) in
       omega (arith, sheet-nextHeading o g)
 
   headingAt-title : headingAt s [] 0 ≡ headingHere
@@ -189,7 +189,7 @@ module _ (o : Order) (g : GoodOrder o) where
 
   section-title : section s headingHere 1 2 ≡ sectionHere ∷ drawerHere ∷ pairRecords b 2 ps
   section-title =
-      section-yes s headingHere 1 2 (rw (sectionStart-title, sectionEnd-title) some-lines)
+      section-yes s headingHere 1 2 (rw (sectionStart-title, sectionEnd-title) (sheet-some o g))
       ∙ rw (
         sectionStart-title,
         sectionEnd-title,
@@ -198,10 +198,15 @@ module _ (o : Order) (g : GoodOrder o) where
         contents-section (2 * (e - a)) (omega (arith, sheet-size o, pairLines-size ps)),
       )
 
-  headings-title : (m : ℕ) → headings (suc m) s [] 0 1 ≡ headingHere ∷ sectionHere ∷ drawerHere ∷ pairRecords b 2 ps
+  -- all records but the document's
+  abbrev under : List Record
+  under = headingHere ∷ sectionHere ∷ drawerHere ∷ pairRecords b 2 ps
+
+  headings-title : (m : ℕ) → headings (suc m) s [] 0 1 ≡ under
   headings-title m =
-      headings-step m s [] 0 1 (omega (arith, some-lines))
-      ∙ rw (headingAt-title, section-title, titleLine-end, sheet-nextHeading o g, headings-none m s _ e _ (omega arith), append-nil (pairRecords b 2 ps))
+      headings-step m s [] 0 1 (omega (arith, sheet-some o g))
+      ∙ rw (headingAt-title, section-title, titleLine-end, sheet-nextHeading o g, headings-none m s _ e _ (omega arith))
+      (ap (λ (R : List Record). headingHere ∷ sectionHere ∷ drawerHere ∷ R) (append-nil (pairRecords b 2 ps)))
 
   -- ---- the document, with nothing before its heading
 
@@ -215,5 +220,6 @@ module _ (o : Order) (g : GoodOrder o) where
   pub reading-sheet : reading s ≡ sheetTable o
   unfolding reading sheetTable
   reading-sheet =
-      let m : e ≡ suc (e - 1) = omega (arith, some-lines) in
-      rw (section-document, sectionEnd-document) (ap (λ (R : List Record). documentRecord s ∷ R) (ap (λ (f : ℕ). headings f s [] 0 1) m ∙ headings-title (e - 1)))
+      let m : e ≡ suc (e - 1) = omega (arith, sheet-some o g) in
+      let all : headings e s [] 0 1 ≡ under = ap (λ (f : ℕ). headings f s [] 0 1) m ∙ headings-title (e - 1) in
+      rw (section-document, sectionEnd-document, all)

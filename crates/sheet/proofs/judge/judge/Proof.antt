@@ -4,7 +4,7 @@ use native.Mathlib.Omega.{arith}
 use borrow.Author.Needs.{needs}
 use Rattle.sheet.specs.declared.layout.Found.the-variants.{Order}
 use Rattle.sheet.specs.Spans.{OrderIn}
-use Rattle.sheet.proofs.Laws.Verdict.{judged-none, judged-title, judged-value, judged-name, judged-repeated, judged-good}
+use Rattle.sheet.proofs.Laws.Judged.{judged-none, judged-title, judged-value, judged-name, judged-repeated, judged-accepted}
 use Rattle.sheet.proofs.judge.judge.Statement.{statement}
 use Rattle.sheet.proofs.judge.judge.Tie as tie
 
@@ -55,7 +55,7 @@ returns-6 c =
     let at-title = at-value .before .before in
     let o = order (at-title .before .before .before) in (
       o .0,
-      judged-good _ _ (o .1)
+      judged-accepted _ _ (o .1)
           (sym (at-title .before .is-bad-text .ensures) ∙ at-title .if1 .left)
           (sym (at-value .before .has-bad-value .ensures) ∙ at-value .if2 .left)
           (sym (at-name .before .has-bad-name .ensures) ∙ at-name .if3 .left)
