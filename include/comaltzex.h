@@ -7,15 +7,16 @@
  * defaults; comaltzex_planning gives the dates of a heading's planning line;
  * comaltzex_timestamp reads one timestamp, and comaltzex_days_between counts the
  * days from one date to another; comaltzex_find_closer finds the line that closes
- * a block or drawer. All functions are plain: they allocate nothing and keep no
- * state, so threads may call them at once (each with a table of its own).
+ * a block or drawer; comaltzex_write_sheet writes an order as Org text. All functions
+ * are plain: they allocate nothing and keep no state, so threads may call them at
+ * once (each with a table or an output of its own).
  *
  * Stack: a call needs up to 96 KB of stack.
  *
  * Pointers: each must point to as many elements as its length says, and none
- * may be NULL, not even with length 0. A table may not overlap the text; texts
- * and keys may overlap. A text is bytes, not a C string: it needs no byte 0 at its
- * end.
+ * may be NULL, not even with length 0. A table may not overlap the text, nor an
+ * output the order; texts and keys may overlap. A text is bytes, not a C string: it
+ * needs no byte 0 at its end.
  *
  * Places are byte offsets into the text; every end is one past the last byte.
  */
@@ -35,30 +36,38 @@ extern "C" {
  * added. If comaltzex_version() is another number, the library is not the one that
  * this header declares.
  */
-#define COMALTZEX_VERSION 7
+#define COMALTZEX_VERSION 8
 
-#define COMALTZEX_TEXT_LIMIT 65536 /* the longest text, in bytes */
+#define COMALTZEX_TEXT_LIMIT 65536 /* the longest text or sheet, in bytes */
 #define COMALTZEX_DEPTH_LIMIT 32   /* the deepest list, drawer or greater block */
-#define COMALTZEX_KEY_LIMIT 64     /* the longest key of a lookup, in bytes */
+#define COMALTZEX_KEY_LIMIT 64     /* the longest key, in bytes */
+#define COMALTZEX_PAIR_LIMIT 16    /* the most pairs of an order */
 #define COMALTZEX_RECORD_SIZE 8    /* numbers in a record */
 
 /* The number of an answer. */
 enum comaltzex_number {
     COMALTZEX_OK = 0,
-    COMALTZEX_TOO_LONG = 1,     /* the text is over COMALTZEX_TEXT_LIMIT */
-    COMALTZEX_TOO_DEEP = 2,     /* a list, drawer or greater block at depth 33 or
-                                   more */
-    COMALTZEX_NO_ROOM = 3,      /* more records than the table has room for */
-    COMALTZEX_NO_HEADING = 4,   /* no heading line starts at that byte */
-    COMALTZEX_NO_DRAWER = 5,    /* that heading has no property drawer, and none of
-                                   8, 9 and 10 says why */
-    COMALTZEX_NO_KEY = 6,       /* no line of that drawer has the key */
-    COMALTZEX_BAD_KEY = 7,      /* the key is empty, over COMALTZEX_KEY_LIMIT, holds
-                                   byte 9, 10, 13 or 32, or ends in '+' */
-    COMALTZEX_BLANK_FIRST = 8,  /* blank lines stand above `:PROPERTIES:` */
-    COMALTZEX_NOT_PROPERTY = 9, /* a line up to `:END:` is no node property */
-    COMALTZEX_NOT_CLOSED = 10,  /* no `:END:` follows `:PROPERTIES:` */
-    COMALTZEX_NO_DAY = 11       /* a date is no calendar day of years 1 to 9999 */
+    COMALTZEX_TOO_LONG = 1,      /* the text or sheet is over COMALTZEX_TEXT_LIMIT */
+    COMALTZEX_TOO_DEEP = 2,      /* a list, drawer or greater block at depth 33 or
+                                    more */
+    COMALTZEX_NO_ROOM = 3,       /* more records than the table has room for */
+    COMALTZEX_NO_HEADING = 4,    /* no heading line starts at that byte */
+    COMALTZEX_NO_DRAWER = 5,     /* that heading has no property drawer, and none of
+                                    8, 9 and 10 says why */
+    COMALTZEX_NO_KEY = 6,        /* no line of that drawer has the key */
+    COMALTZEX_BAD_KEY = 7,       /* the key is empty, over COMALTZEX_KEY_LIMIT, holds
+                                    byte 9, 10, 13 or 32, or ends in '+' */
+    COMALTZEX_BLANK_FIRST = 8,   /* blank lines stand above `:PROPERTIES:` */
+    COMALTZEX_NOT_PROPERTY = 9,  /* a line up to `:END:` is no node property */
+    COMALTZEX_NOT_CLOSED = 10,   /* no `:END:` follows `:PROPERTIES:` */
+    COMALTZEX_NO_DAY = 11,       /* a date is no calendar day of years 1 to 9999 */
+    COMALTZEX_BAD_ORDER = 12,    /* the order is cut short, goes on after its last pair,
+                                    or has over COMALTZEX_PAIR_LIMIT pairs */
+    COMALTZEX_BAD_TEXT = 13,     /* a title or value holds byte 10 or 13, or has a blank
+                                    byte at either end */
+    COMALTZEX_BAD_NAME = 14,     /* a key of an order is bad, as for 7, or is `END` */
+    COMALTZEX_REPEATED_KEY = 15, /* an order has a key twice */
+    COMALTZEX_SHORT_OUTPUT = 16  /* the sheet is longer than the output */
 };
 
 /* The numbers of a record, in order. */
@@ -228,6 +237,11 @@ typedef struct comaltzex_days {
     uint32_t number; /* 0 or 11 */
     int32_t days;
 } comaltzex_days;
+
+typedef struct comaltzex_written {
+    uint32_t number; /* 0, 1 or 12 to 16 */
+    size_t count;    /* bytes */
+} comaltzex_written;
 
 /*
  * Reads a text into a table of table_len numbers, with room for
@@ -401,6 +415,50 @@ comaltzex_days comaltzex_days_between(uint32_t year, uint32_t month, uint32_t da
                                       uint32_t second_year, uint32_t second_month,
                                       uint32_t second_day);
 
+/*
+ * Writes an order as its sheet, an Org text, into an output of out_len bytes. The
+ * order is one buffer, with nothing between these and nothing after them:
+ *
+ *   2 bytes         the title's length, low byte first
+ *   so many bytes   the title; it may be empty
+ *   1 byte          the number of pairs, at most 16
+ *   for each pair
+ *     1 byte          the key's length
+ *     so many bytes   the key
+ *     2 bytes         the value's length, low byte first
+ *     so many bytes   the value; it may be empty
+ *
+ * The sheet has one star, a space and the title; `:PROPERTIES:`; for each pair in
+ * turn `:`, the key, `:` and, unless the value is empty, a space and the value; and
+ * `:END:`. Each of these lines has byte 10, none is indented. The first of these
+ * that holds is the answer:
+ *
+ *   12  the order is cut short, goes on after its last pair, or has over 16 pairs
+ *   13  the title or a value holds byte 10 or 13, or starts or ends with a blank
+ *       byte (32, 9 and 13)
+ *   14  a key is empty, over 64 bytes, holds byte 9, 10, 13 or 32, ends in '+', or is
+ *       `END`
+ *   15  two keys are the same
+ *   1   the sheet is over 65,536 bytes
+ *   16  the sheet is longer than the output; count is the bytes needed
+ *   0   the sheet is out[0] up to, not including, out[count]
+ *
+ * Each is asked of the whole order before the next: a bad last value comes before a
+ * bad first key. The case of ASCII letters counts for nothing in `END`, and in keys
+ * that are compared. With 12 to 15 and with 1 count is 0.
+ *
+ * Every number but 0 leaves the whole output as it was; 0 leaves what is past the
+ * sheet as it was. Every sheet has at least 22 bytes, so an out_len of 0 asks for the
+ * length. The order may be of any length.
+ *
+ * A sheet reads back as what was written: comaltzex_lookup at its byte 0 finds each
+ * key, and gives its pair's value byte for byte. Its records are the document, one
+ * heading of one star, its section, one property drawer and a node property for each
+ * pair, and nothing else.
+ */
+comaltzex_written comaltzex_write_sheet(const uint8_t *order, size_t order_len, uint8_t *out,
+                                        size_t out_len);
+
 /* The library's own COMALTZEX_RECORD_SIZE. */
 size_t comaltzex_record_size(void);
 
@@ -435,6 +493,16 @@ static inline const char *comaltzex_number_name(uint32_t number)
         return "not closed";
     case COMALTZEX_NO_DAY:
         return "no calendar day";
+    case COMALTZEX_BAD_ORDER:
+        return "bad order";
+    case COMALTZEX_BAD_TEXT:
+        return "bad text";
+    case COMALTZEX_BAD_NAME:
+        return "bad name";
+    case COMALTZEX_REPEATED_KEY:
+        return "repeated key";
+    case COMALTZEX_SHORT_OUTPUT:
+        return "short output";
     default:
         return "unknown";
     }

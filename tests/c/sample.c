@@ -60,7 +60,12 @@ static void number_names(void)
     check_name(COMALTZEX_NOT_PROPERTY, "not a property");
     check_name(COMALTZEX_NOT_CLOSED, "not closed");
     check_name(COMALTZEX_NO_DAY, "no calendar day");
-    check_name(COMALTZEX_NO_DAY + 1, "unknown");
+    check_name(COMALTZEX_BAD_ORDER, "bad order");
+    check_name(COMALTZEX_BAD_TEXT, "bad text");
+    check_name(COMALTZEX_BAD_NAME, "bad name");
+    check_name(COMALTZEX_REPEATED_KEY, "repeated key");
+    check_name(COMALTZEX_SHORT_OUTPUT, "short output");
+    check_name(COMALTZEX_SHORT_OUTPUT + 1, "unknown");
 }
 
 static void first_sample(void)
