@@ -3,7 +3,7 @@
 use crate::RECORD_SIZE;
 
 /// `COMALTZEX_VERSION` of the header.
-const VERSION: u32 = 7;
+const VERSION: u32 = 8;
 
 /// The numbers of an answer, as in `comaltzex.h`.
 pub(crate) mod number {
@@ -19,6 +19,11 @@ pub(crate) mod number {
     pub(crate) const NOT_PROPERTY: u32 = 9;
     pub(crate) const NOT_CLOSED: u32 = 10;
     pub(crate) const NO_DAY: u32 = 11;
+    pub(crate) const BAD_ORDER: u32 = 12;
+    pub(crate) const BAD_TEXT: u32 = 13;
+    pub(crate) const BAD_NAME: u32 = 14;
+    pub(crate) const REPEATED_KEY: u32 = 15;
+    pub(crate) const SHORT_OUTPUT: u32 = 16;
 }
 
 /// Whose an answer is, as in `comaltzex.h`.
@@ -133,6 +138,13 @@ pub(crate) struct Days {
     pub(crate) days: i32,
 }
 
+/// `comaltzex_written` of the header.
+#[repr(C)]
+pub(crate) struct Written {
+    pub(crate) number: u32,
+    pub(crate) count: usize,
+}
+
 extern "C" {
     fn comaltzex_read(
         text: *const u8,
@@ -173,6 +185,13 @@ extern "C" {
         second_month: u32,
         second_day: u32,
     ) -> Days;
+
+    fn comaltzex_write_sheet(
+        order: *const u8,
+        order_len: usize,
+        out: *mut u8,
+        out_len: usize,
+    ) -> Written;
 
     fn comaltzex_record_size() -> usize;
 
@@ -250,6 +269,12 @@ pub(crate) fn days_between(first: Date, second: Date) -> Days {
     unsafe { comaltzex_days_between(year, month, day, second.year, second.month, second.day) }
 }
 
+pub(crate) fn write_sheet(order: &[u8], out: &mut [u8]) -> Written {
+    assert_version();
+    // SAFETY: as in `read`; the library writes only the output.
+    unsafe { comaltzex_write_sheet(order.as_ptr(), order.len(), out.as_mut_ptr(), out.len()) }
+}
+
 fn record_size() -> usize {
     // SAFETY: the function takes nothing and touches no memory of the caller's.
     unsafe { comaltzex_record_size() }
@@ -282,5 +307,6 @@ mod tests {
         assert_eq!(size_of::<FoundStamp>(), 136);
         assert_eq!(size_of::<Plan>(), 376);
         assert_eq!(size_of::<Days>(), 8);
+        assert_eq!(size_of::<Written>(), 16);
     }
 }

@@ -37,7 +37,8 @@
 //! of one heading's planning line, [`timestamp`] reads one timestamp, and
 //! [`days_between`] counts the days from one date to another. [`find_closer`] finds
 //! the line that closes one block or drawer. [`Record::item`] tells an item's check box.
-//! A call needs up to 96 KB of stack.
+//! [`Order`] and [`write_sheet`] write an order as Org text that reads back as what was
+//! written. A call needs up to 96 KB of stack.
 
 #![deny(unsafe_code, unsafe_op_in_unsafe_fn, missing_docs)]
 
@@ -50,10 +51,12 @@ mod item;
 mod lines;
 mod lookup;
 mod mend;
+mod order;
 mod planning;
 mod record;
 mod refusal;
 mod repeats;
+mod sheet;
 mod table;
 mod timestamp;
 
@@ -62,18 +65,22 @@ pub use dates::{days_between, Date};
 pub use defaults::{lookup_with_defaults, property_or_default, Sourced, Whose};
 pub use item::{CheckBox, Item};
 pub use lookup::{lookup, property};
+pub use order::{Order, OrderError};
 pub use planning::{planning, Planning};
 pub use record::{Kind, Record, Records};
-pub use refusal::{DateRefusal, LookupRefusal, PlanningRefusal, Refusal};
+pub use refusal::{DateRefusal, LookupRefusal, PlanningRefusal, Refusal, SheetRefusal};
 pub use repeats::{Delay, Interval, Mark, Repeater, Repeats, Unit};
+pub use sheet::{sheet, write_sheet};
 pub use table::{read, Table};
 pub use timestamp::{timestamp, FoundTimestamp, Moment, Time, Timestamp};
 
-/// The longest text that is read, in bytes.
+/// The longest text that is read, and the longest sheet, in bytes.
 pub const TEXT_LIMIT: usize = 65_536;
 /// The greatest depth of lists, drawers and greater blocks that is read.
 pub const DEPTH_LIMIT: usize = 32;
-/// The longest key of a lookup, in bytes.
+/// The longest key, in bytes.
 pub const KEY_LIMIT: usize = 64;
+/// How many pairs an order has at most.
+pub const PAIR_LIMIT: usize = 16;
 /// How many numbers a record takes in a table.
 pub const RECORD_SIZE: usize = 8;

@@ -5,6 +5,9 @@ use crate::ffi::number;
 
 const TOO_LONG: &str = "the text is longer than 65,536 bytes";
 const NO_HEADING: &str = "no heading starts at this byte";
+/// What the key of an order is.
+pub(crate) const NAME_RULE: &str =
+    "a key has 1 to 64 bytes, no blanks or line ends, no `+` at its end, and is not END";
 
 /// Why a text was not read. The table is then as it was.
 #[derive(Clone, Copy, Debug, PartialEq, Eq, Hash)]
@@ -180,3 +183,64 @@ impl Display for DateRefusal {
 }
 
 impl Error for DateRefusal {}
+
+/// Why no sheet was written. The output is then as it was.
+#[derive(Clone, Copy, Debug, PartialEq, Eq, Hash)]
+#[non_exhaustive]
+pub enum SheetRefusal {
+    /// The order is cut short, goes on after its last pair, or has more pairs than
+    /// [`PAIR_LIMIT`](crate::PAIR_LIMIT).
+    BadOrder,
+    /// The title or a value has a line end (byte 10 or 13) in it, or a blank at either
+    /// end.
+    BadText,
+    /// A key is empty, longer than [`KEY_LIMIT`](crate::KEY_LIMIT), holds a blank or a
+    /// line end, ends in `+`, or is `END` in any case.
+    BadName,
+    /// Two keys are the same but for the case of ASCII letters.
+    RepeatedKey,
+    /// The sheet would be longer than [`TEXT_LIMIT`](crate::TEXT_LIMIT).
+    TooLong,
+    /// The sheet is longer than the output.
+    ShortOutput {
+        /// How many bytes the sheet has.
+        needed: usize,
+    },
+}
+
+impl SheetRefusal {
+    /// The number of this answer in the C interface.
+    pub fn number(self) -> u32 {
+        match self {
+            SheetRefusal::BadOrder => number::BAD_ORDER,
+            SheetRefusal::BadText => number::BAD_TEXT,
+            SheetRefusal::BadName => number::BAD_NAME,
+            SheetRefusal::RepeatedKey => number::REPEATED_KEY,
+            SheetRefusal::TooLong => number::TOO_LONG,
+            SheetRefusal::ShortOutput { .. } => number::SHORT_OUTPUT,
+        }
+    }
+}
+
+impl Display for SheetRefusal {
+    fn fmt(&self, f: &mut Formatter<'_>) -> fmt::Result {
+        match self {
+            SheetRefusal::BadOrder => {
+                f.write_str("the order is cut short or too long, or has more than 16 pairs")
+            }
+            SheetRefusal::BadText => {
+                f.write_str("the title or a value has a line end in it, or a blank at either end")
+            }
+            SheetRefusal::BadName => write!(f, "not every key is good: {NAME_RULE}"),
+            SheetRefusal::RepeatedKey => {
+                f.write_str("two keys are the same; capital and small letters count as one")
+            }
+            SheetRefusal::TooLong => f.write_str("the sheet would be longer than 65,536 bytes"),
+            SheetRefusal::ShortOutput { needed } => {
+                write!(f, "the output has no room for a sheet of {needed} bytes")
+            }
+        }
+    }
+}
+
+impl Error for SheetRefusal {}
