@@ -1,16 +1,16 @@
 //! The example `orders`: its unit tests, and its program run as a clerk does.
-//!
-//! `cargo test` builds the program first, but `cargo test --test orders` does not.
 
+mod example;
+
+use std::env;
 use std::ffi::OsStr;
-use std::fs::{self, File};
+use std::fs::File;
 use std::io::Write;
 use std::os::unix::ffi::OsStrExt;
-use std::path::PathBuf;
-use std::process::{Command, Output, Stdio};
-use std::{env, thread};
+use std::process::{Command, Stdio};
 
 use comaltzex::{DEPTH_LIMIT, TEXT_LIMIT};
+use example::{check, run_on};
 
 // what only `main` calls is of use in the program
 #[allow(dead_code)]
@@ -25,36 +25,7 @@ const BLANK_FIRST_WARNING: &str =
 
 /// The program, in a folder of the test's own that holds these books.
 fn orders(folder: &str, books: &[(&[u8], &str)]) -> Command {
-    let folder = PathBuf::from(env!("CARGO_TARGET_TMPDIR")).join(folder);
-    fs::create_dir_all(&folder).unwrap();
-    for (name, book) in books {
-        fs::write(folder.join(OsStr::from_bytes(name)), book).unwrap();
-    }
-    let test = env::current_exe().unwrap();
-    let program = test.ancestors().nth(2).unwrap().join("examples/orders");
-    assert!(program.is_file(), "run `cargo build --example orders`");
-    let mut command = Command::new(program);
-    command.current_dir(folder).stdin(Stdio::null());
-    command
-}
-
-/// Runs it on this standard input.
-fn run_on(mut command: Command, input: &str) -> Output {
-    command.stdin(Stdio::piped());
-    command.stdout(Stdio::piped()).stderr(Stdio::piped());
-    let mut child = command.spawn().unwrap();
-    let mut stdin = child.stdin.take().unwrap();
-    thread::scope(|scope| {
-        scope.spawn(move || stdin.write_all(input.as_bytes()).unwrap());
-        child.wait_with_output().unwrap()
-    })
-}
-
-#[track_caller]
-fn check(output: Output, status: i32, stdout: &str, stderr: &str) {
-    assert_eq!(String::from_utf8_lossy(&output.stdout), stdout);
-    assert_eq!(String::from_utf8_lossy(&output.stderr), stderr);
-    assert_eq!(output.status.code(), Some(status));
+    example::program("orders", folder, books)
 }
 
 #[test]

@@ -5,7 +5,7 @@ use std::ops::Range;
 use comaltzex::{lookup, lookup_with_defaults, Kind, LookupRefusal, Sourced, Whose};
 
 use super::entry::{looks_like_a_drawer, starts_with_opener, Entry};
-use super::printable::{printable, shortened};
+use super::printable::printable;
 
 /// How much is shown of a line that is no property, in characters.
 const SHOWN: usize = 60;
@@ -123,6 +123,14 @@ fn words(text: &[u8], whose: Whose, answer: LookupRefusal) -> String {
     match line.unwrap_or_default().trim_ascii() {
         b"" => format!("{refusal}: it is blank"),
         line => format!("{refusal}: {}", shortened(&printable(line), SHOWN)),
+    }
+}
+
+/// At most so many characters of a text, and two dots where there were more.
+fn shortened(text: &str, limit: usize) -> String {
+    match text.char_indices().nth(limit) {
+        Some((end, _)) => format!("{}..", &text[..end]),
+        None => text.to_string(),
     }
 }
 
@@ -315,5 +323,12 @@ mod tests {
             let wanted = at(3, &format!("no Fuel in its drawer{why}"));
             assert_eq!(fuel(LACKING, house.as_bytes()), wanted, "{house:?}");
         }
+    }
+
+    #[test]
+    fn long_texts_are_shortened() {
+        assert_eq!(shortened("äbc", 3), "äbc");
+        assert_eq!(shortened("äbcd", 3), "äbc..");
+        assert_eq!(shortened("", 3), "");
     }
 }

@@ -6,13 +6,17 @@
 mod arguments;
 mod entry;
 mod finding;
+#[path = "../common/output.rs"]
+mod output;
+#[path = "../common/printable.rs"]
 mod printable;
 mod report;
+#[path = "../common/source.rs"]
 mod source;
 
 use std::env;
 use std::error::Error;
-use std::io::{self, ErrorKind, Write};
+use std::io::ErrorKind;
 use std::process::ExitCode;
 
 use comaltzex::{LookupRefusal, TEXT_LIMIT};
@@ -75,13 +79,13 @@ fn report_on(
     request: &Request,
     defaults: Option<&[u8]>,
 ) -> Result<Report, Box<dyn Error>> {
-    let book = source.contents()?;
+    let book = source.contents(TEXT_LIMIT)?;
     Ok(Report::new(source.name(), &book, request, defaults)?)
 }
 
 /// The text of the defaults, if it can be looked up. An error is how to end.
 fn read_defaults(source: &Source) -> Result<Vec<u8>, Status> {
-    match source.contents() {
+    match source.contents(TEXT_LIMIT) {
         Ok(text) if text.len() <= TEXT_LIMIT => Ok(text),
         Ok(_) => Err(complain_of(source.name(), &LookupRefusal::TooLong)),
         Err(error) => Err(complain_of(source.name(), &error)),
@@ -99,9 +103,7 @@ fn status_of(report: &Report) -> Status {
 /// Writes to standard output. An error is how to end at once: quietly, where the reader
 /// has gone away.
 fn print(text: &[u8]) -> Result<(), Status> {
-    let mut output = io::stdout().lock();
-    let written = output.write_all(text).and_then(|()| output.flush());
-    written.map_err(|error| match error.kind() {
+    output::print(text).map_err(|error| match error.kind() {
         ErrorKind::BrokenPipe => Status::Good,
         _ => complain_of(b"standard output", &error),
     })
@@ -111,9 +113,7 @@ fn complain_of(name: &[u8], error: &dyn Error) -> Status {
     complain(&[name, b": ", error.to_string().as_bytes()].concat())
 }
 
-/// Says on standard error what went wrong. Where that fails, the status must do.
 fn complain(message: &[u8]) -> Status {
-    let line = [b"orders: ", message, b"\n"].concat();
-    let _ = io::stderr().write_all(&line);
+    output::complain("orders", message);
     Status::Failed
 }

@@ -1,11 +1,9 @@
-//! Where a book comes from, or the text of the house defaults.
+//! Where the bytes come from that a program reads.
 
 use std::ffi::OsString;
 use std::fs::File;
 use std::io::{self, Read};
 use std::os::unix::ffi::OsStrExt;
-
-use comaltzex::TEXT_LIMIT;
 
 #[derive(Debug, PartialEq)]
 pub enum Source {
@@ -33,26 +31,26 @@ impl Source {
         }
     }
 
-    /// The bytes of the text. Of one over the limit, as many as show that it is.
-    pub fn contents(&self) -> io::Result<Vec<u8>> {
+    /// Its bytes. Where they are more than the limit, as many as show that.
+    pub fn contents(&self, limit: usize) -> io::Result<Vec<u8>> {
         match self {
-            Source::File(name) => front(&mut File::open(name)?),
+            Source::File(name) => front(&mut File::open(name)?, limit),
             Source::Stdin => {
                 let mut input = io::stdin().lock();
-                let text = front(&mut input)?;
+                let bytes = front(&mut input, limit)?;
                 // the rest is taken too: whoever writes it is not to fail
                 io::copy(&mut input, &mut io::sink())?;
-                Ok(text)
+                Ok(bytes)
             }
         }
     }
 }
 
 /// What is read up to one byte past the limit.
-fn front(input: &mut impl Read) -> io::Result<Vec<u8>> {
-    let mut text = Vec::new();
-    input.take(TEXT_LIMIT as u64 + 1).read_to_end(&mut text)?;
-    Ok(text)
+fn front(input: &mut impl Read, limit: usize) -> io::Result<Vec<u8>> {
+    let mut bytes = Vec::new();
+    input.take(limit as u64 + 1).read_to_end(&mut bytes)?;
+    Ok(bytes)
 }
 
 #[cfg(test)]
@@ -67,10 +65,12 @@ mod tests {
     }
 
     #[test]
-    fn long_texts_are_cut_past_the_limit() {
-        let length = |n| front(&mut &vec![b'x'; n][..]).unwrap().len();
-        assert_eq!(length(TEXT_LIMIT), TEXT_LIMIT);
-        assert_eq!(length(TEXT_LIMIT + 1), TEXT_LIMIT + 1);
-        assert_eq!(length(TEXT_LIMIT + 2), TEXT_LIMIT + 1);
+    fn long_inputs_are_cut_past_the_limit() {
+        for limit in [0, 65_536] {
+            let length = |n| front(&mut &vec![b'x'; n][..], limit).unwrap().len();
+            assert_eq!(length(limit), limit);
+            assert_eq!(length(limit + 1), limit + 1);
+            assert_eq!(length(limit + 2), limit + 1);
+        }
     }
 }

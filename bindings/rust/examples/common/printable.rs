@@ -1,4 +1,4 @@
-//! Bytes of a book as text for a terminal or an editor.
+//! Bytes as text for a terminal or an editor.
 
 /// The bytes as UTF-8. What is not, control characters and those that turn the text's
 /// direction are escaped; but tabs stay, by which tags are set apart in titles.
@@ -24,14 +24,6 @@ fn is_harmless(character: char) -> bool {
         '\t' => true,
         '\u{202a}'..='\u{202e}' | '\u{2066}'..='\u{2069}' => false,
         _ => !character.is_control(),
-    }
-}
-
-/// At most so many characters of a text, and two dots where there were more.
-pub fn shortened(text: &str, limit: usize) -> String {
-    match text.char_indices().nth(limit) {
-        Some((end, _)) => format!("{}..", &text[..end]),
-        None => text.to_string(),
     }
 }
 
@@ -75,12 +67,5 @@ mod tests {
             printable(b"M\xfcller \xe2\x82 \x9b \xff"),
             r"M\xfcller \xe2\x82 \x9b \xff"
         );
-    }
-
-    #[test]
-    fn long_texts_are_shortened() {
-        assert_eq!(shortened("äbc", 3), "äbc");
-        assert_eq!(shortened("äbcd", 3), "äbc..");
-        assert_eq!(shortened("", 3), "");
     }
 }
