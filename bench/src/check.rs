@@ -5,6 +5,7 @@ use std::time::Duration;
 
 use crate::contest::{self, best, contest, Contender, Effort};
 use crate::lists;
+use crate::sheets;
 use crate::texts::{self, Text};
 
 const BOOK_SIZE: usize = 60 * 1024;
@@ -50,6 +51,7 @@ pub fn passes() -> bool {
     held.extend(calls_held());
     held.extend(each_held("look", contest::refused_lookup, texts::refused));
     held.extend(each_held("house", contest::house_default, texts::defaults));
+    held.extend(each_held("write", contest::write_sheet, sheets::orders));
     held.push(days_held());
     held.iter().all(|&held| held)
 }

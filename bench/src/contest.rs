@@ -1,10 +1,11 @@
 //! Timing several functions on one text, in turns.
 
+use std::cell::RefCell;
 use std::hint::black_box;
 use std::ops::Range;
 use std::time::{Duration, Instant};
 
-use comaltzex::{Date, LookupRefusal, Whose};
+use comaltzex::{Date, LookupRefusal, Whose, TEXT_LIMIT};
 
 use crate::count;
 
@@ -62,6 +63,22 @@ pub fn planning(text: &[u8], _: &mut [u32]) {
     let plan = comaltzex::planning(black_box(text), 0).expect("the text starts with a heading");
     assert!(plan.deadline.is_some(), "the heading has a deadline");
     black_box(plan);
+}
+
+thread_local! {
+    /// Room for every sheet, lent to each call: none is timed with making it.
+    static OUTPUT: RefCell<Vec<u8>> = RefCell::new(vec![0; TEXT_LIMIT]);
+}
+
+/// The sheet of the text, which is an order.
+pub fn write_sheet(text: &[u8], _: &mut [u32]) {
+    black_box(sheet_length(black_box(text)));
+}
+
+/// How long that sheet is.
+pub fn sheet_length(order: &[u8]) -> usize {
+    let length = OUTPUT.with_borrow_mut(|output| comaltzex::write_sheet(order, output));
+    length.expect("the text is an order")
 }
 
 pub fn plain_reader(text: &[u8], table: &mut [u32]) {

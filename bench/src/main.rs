@@ -1,7 +1,7 @@
 //! How long a reading takes beside a count of byte 10 over the same text and
 //! beside an independent plain reader; a search for a closer, a refused lookup, a
-//! house default, a timestamp and a planning line beside the count; and a count of
-//! days.
+//! house default, a timestamp, a planning line and the writing of a sheet beside the
+//! count; and a count of days.
 //!
 //!     bench            prints the table
 //!     bench --check    exits with 1 if a limit of `check` is passed
@@ -11,6 +11,7 @@ mod contest;
 mod count;
 mod lists;
 mod report;
+mod sheets;
 mod texts;
 
 use std::env;

@@ -6,6 +6,7 @@ use comaltzex::{Kind, Refusal, RECORD_SIZE};
 
 use crate::contest::{self, contest, median, median_ratio, Contender, Effort};
 use crate::lists;
+use crate::sheets;
 use crate::texts::{self, Text};
 
 const SIZES: [usize; 3] = [4 * 1024, 16 * 1024, 64 * 1024];
@@ -33,6 +34,7 @@ round's own. The machine is noisy: only ratios within one run count.
           that is the defaults; the value starts at that byte
   stamp   comaltzex_timestamp, on a text that is one timestamp
   plan    comaltzex_planning, on a heading and its planning line
+  write   comaltzex_write_sheet, on an order; the sheet has so many bytes
   days    comaltzex_days_between, from 1 January to 31 December: nanoseconds a call
 ";
 
@@ -45,6 +47,7 @@ pub fn print() {
     print_defaults();
     print_stamps();
     print_plans();
+    print_sheets();
     print_days();
 }
 
@@ -135,6 +138,14 @@ fn print_plans() {
     print_call_head("planning", "parts", "plan");
     for parts in PLANNING_PARTS {
         print_call(&texts::planning_line(parts), parts, contest::planning);
+    }
+}
+
+fn print_sheets() {
+    print_call_head("order", "sheet", "write");
+    for order in SIZES.into_iter().flat_map(sheets::orders) {
+        let length = contest::sheet_length(&order.bytes);
+        print_call(&order, length, contest::write_sheet);
     }
 }
 
