@@ -155,11 +155,11 @@ static void make(struct parts parts)
 }
 
 /* Checks that an order is written, and read back from its sheet. */
-static void check_parts(struct parts parts)
+static void check_parts(const char *what, struct parts parts)
 {
     make(parts);
-    check_written(parts.title);
-    check_reads(parts.title, 2);
+    check_written(what);
+    check_reads(what, 2);
     check_value(parts.key, parts.value, strlen(parts.value));
     check_value(parts.second_key, parts.second_value, strlen(parts.second_value));
 }
@@ -307,8 +307,8 @@ static void good_texts(void)
     for (i = 0; i < LENGTH(texts); i++) {
         const struct parts parts = {texts[i], "VIN", texts[i], "fuel", "98"};
         const struct parts reversed = {"T", "PROPERTIES", "", "a:B", texts[i]};
-        check_parts(parts);
-        check_parts(reversed);
+        check_parts(texts[i], parts);
+        check_parts(texts[i], reversed);
     }
 }
 
@@ -367,7 +367,7 @@ static void key_limit(void)
     key[sizeof(key) - 1] = '\0';
     check_parts_refused("key of 65 bytes", parts, COMALTZEX_BAD_NAME);
     parts.second_key = key + 1;
-    check_parts(parts);
+    check_parts("key of 64 bytes", parts);
 }
 
 static void repeated_keys(void)
@@ -393,7 +393,7 @@ static void other_keys(void)
     size_t i;
     for (i = 0; i < LENGTH(keys); i++) {
         const struct parts parts = {"T", keys[i][0], "1", keys[i][1], "2"};
-        check_parts(parts);
+        check_parts(keys[i][0], parts);
     }
 }
 

@@ -309,4 +309,23 @@ mod tests {
         assert_eq!(size_of::<Days>(), 8);
         assert_eq!(size_of::<Written>(), 16);
     }
+
+    #[test]
+    fn a_refused_order_has_no_count() {
+        let long = [&b"\xff\xff"[..], &[b't'; 65_535], b"\x00"].concat();
+        let refused: [(u32, &[u8]); 5] = [
+            (number::BAD_ORDER, b""),
+            (number::BAD_TEXT, b"\x01\x00 \x00"),
+            (number::BAD_NAME, b"\x00\x00\x01\x00\x00\x00"),
+            (
+                number::REPEATED_KEY,
+                b"\x00\x00\x02\x01A\x00\x00\x01a\x00\x00",
+            ),
+            (number::TOO_LONG, &long),
+        ];
+        for (number, order) in refused {
+            let written = write_sheet(order, &mut [0; 40]);
+            assert_eq!((written.number, written.count), (number, 0));
+        }
+    }
 }

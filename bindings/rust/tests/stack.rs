@@ -3,8 +3,8 @@
 mod nested;
 
 use comaltzex::{
-    find_closer, lookup, lookup_with_defaults, planning, read, timestamp, Refusal, DEPTH_LIMIT,
-    RECORD_SIZE, TEXT_LIMIT,
+    find_closer, lookup, lookup_with_defaults, planning, read, timestamp, Order, Refusal,
+    DEPTH_LIMIT, KEY_LIMIT, PAIR_LIMIT, RECORD_SIZE, TEXT_LIMIT,
 };
 use nested::nested_lists;
 use std::thread;
@@ -167,4 +167,18 @@ fn long_planning_line() {
     }
     let plan = on_a_small_stack(move || planning(&text, 0)).unwrap();
     assert!(plan.deadline.is_some());
+}
+
+/// Keys of the greatest length that differ in their last bytes only.
+#[test]
+fn long_sheet() {
+    let value = [b'v'; 4000];
+    let mut order = Order::new(b"").unwrap();
+    for number in 0..PAIR_LIMIT {
+        let key = format!("{number:0KEY_LIMIT$}");
+        order.add(key.as_bytes(), &value).unwrap();
+    }
+    let mut output = vec![0; TEXT_LIMIT];
+    let written = on_a_small_stack(move || order.write_sheet(&mut output));
+    assert_eq!(written, Ok(22 + PAIR_LIMIT * (KEY_LIMIT + 4004)));
 }
