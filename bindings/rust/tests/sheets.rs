@@ -32,7 +32,7 @@ fn buffer(title: &[u8], pairs: &[Pair]) -> Vec<u8> {
     bytes
 }
 
-/// The sheet as the order's paper says.
+/// The sheet as the papers say.
 fn lines(title: &[u8], pairs: &[Pair]) -> Vec<u8> {
     let mut lines = [b"* ", title, b"\n:PROPERTIES:\n"].concat();
     for &(key, value) in pairs {
@@ -136,11 +136,12 @@ fn check_built(title: &[u8], pairs: &[Pair]) {
     assert!(output == [&wanted[..], &[UNTOUCHED; 9]].concat());
 }
 
-/// So many keys, each with this value.
+/// So many keys.
 fn numbered(count: usize) -> Vec<String> {
     (0..count).map(|number| format!("Key{number}")).collect()
 }
 
+/// Each of these keys with this value.
 fn pairs_of<'b>(keys: &'b [String], value: &'b [u8]) -> Vec<Pair<'b>> {
     keys.iter().map(|key| (key.as_bytes(), value)).collect()
 }
@@ -271,7 +272,7 @@ fn pairs_up_to_the_limit() {
         &buffer(b"T", &pairs_of(&keys, b"7")),
         SheetRefusal::BadOrder,
     );
-    // whatever follows, and though it has all that was said
+    // whatever follows, be it nothing or all that was said
     check_refused(b"\x00\x00\x11", SheetRefusal::BadOrder);
     let keys = numbered(255);
     check_refused(&buffer(b"", &pairs_of(&keys, b"")), SheetRefusal::BadOrder);
