@@ -36,11 +36,8 @@ impl Parts {
             let added = order.add(key.as_bytes(), value.as_bytes());
             added.expect("the pair is good");
         }
-        assert!(
-            order.sheet() == self.sheet().as_bytes(),
-            "the sheet of {} pairs is not that of its parts",
-            self.pairs.len()
-        );
+        let agreed = order.sheet() == self.sheet().as_bytes();
+        assert!(agreed, "the sheet is not that of its parts");
         order.to_bytes().to_vec()
     }
 
