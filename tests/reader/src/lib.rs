@@ -15,6 +15,7 @@
 //! | order 2 | `lookup` |
 //! | order 3 | `closer` |
 //! | order 4 | `item`, `list`; rule 9a in `rules`, the records in `reading` |
+//! | order 5 | `order`, `sheet` |
 //! | order 13 | `defaults` |
 
 mod answer;
@@ -26,9 +27,11 @@ mod line;
 mod list;
 mod lookup;
 mod numbers;
+mod order;
 mod planning;
 mod reading;
 mod rules;
+mod sheet;
 mod stamp;
 
 pub use answer::answer;
@@ -37,8 +40,10 @@ pub use days::{days_between, Date};
 pub use defaults::lookup_with_defaults;
 pub use lookup::lookup;
 pub use numbers::{timestamp, MomentNumbers, StampNumbers, NO_MOMENT, NO_STAMP};
+pub use order::{Order, Pair};
 pub use planning::planning;
 pub use reading::{read, Reading, Record};
+pub use sheet::write_sheet;
 
 /// "1 | text over 65,536 bytes".
 pub const LONGEST_TEXT: usize = 65_536;

@@ -39,7 +39,7 @@ fn refusal(number: u32) -> Answer {
 }
 
 /// "A bad key is empty, over 64 bytes, holds a blank byte or byte 10, or ends in `+`."
-fn is_bad_key(key: &[u8]) -> bool {
+pub fn is_bad_key(key: &[u8]) -> bool {
     let forbidden = |byte: &u8| is_blank_byte(*byte) || *byte == 10;
     key.is_empty() || key.len() > LONGEST_KEY || key.iter().any(forbidden) || key.ends_with(b"+")
 }
