@@ -5,10 +5,11 @@ use std::path::Path;
 
 use plain_reader::{Date, NO_STAMP, NUMBERS_OF_A_RECORD};
 
+use crate::case_order::CaseOrder;
 use crate::escape::unescape;
 use crate::subject::{
     CloserAnswer, DaysAnswer, DefaultedAnswer, LookupAnswer, PlanningAnswer, ReadAnswer,
-    TimestampAnswer,
+    SheetAnswer, TimestampAnswer,
 };
 use crate::written::{plan, stamp};
 
@@ -21,11 +22,13 @@ const WITHOUT_LINE_NUMBER: usize = NUMBERS_OF_A_RECORD - 1;
 /// The place of a record's start among its numbers.
 const START: usize = 1;
 
-/// A text, perhaps a defaults text beside it, and what is expected of them.
+/// A text, perhaps a defaults text beside it or an order whose sheet it is, and what is expected of
+/// them.
 pub struct Case {
     pub name: String,
     pub text: Vec<u8>,
     pub defaults: Option<Vec<u8>>,
+    pub order: CaseOrder,
     pub expectations: Vec<Expectation>,
 }
 
@@ -35,6 +38,7 @@ impl Case {
             name: name.to_string(),
             text: Vec::new(),
             defaults: None,
+            order: CaseOrder::default(),
             expectations: Vec::new(),
         }
     }
@@ -95,6 +99,10 @@ pub enum Expectation {
         second: Date,
         answer: DaysAnswer,
     },
+    Sheet {
+        room: usize,
+        answer: SheetAnswer,
+    },
 }
 
 /// A record as a case writes it: with its line number or without.
@@ -136,7 +144,7 @@ pub fn cases_of(path: &Path) -> Result<Vec<Case>, String> {
     cases.iter().try_for_each(meaning).map(|()| cases)
 }
 
-/// Refuses a case that expects nothing, of its text or of its defaults text.
+/// Refuses a case that expects nothing, of its text, of its defaults text or of its order.
 fn check_meaning(case: &Case) -> Result<(), &'static str> {
     if expects_nothing(case) {
         return Err("nothing expected");
@@ -145,7 +153,39 @@ fn check_meaning(case: &Case) -> Result<(), &'static str> {
     match (&case.defaults, case.expectations.iter().any(is_defaulted)) {
         (Some(_), false) => Err("defaults, and nothing expected of them"),
         (None, true) => Err("defaulted, and no defaults"),
+        _ => check_order(case),
+    }
+}
+
+/// An order and `sheet` lines need each other. The text is the sheet of an order that one of these
+/// lines takes, whose pairs must be known; any other has none.
+fn check_order(case: &Case) -> Result<(), &'static str> {
+    let sheets = case.expectations.iter().filter_map(sheet_number);
+    let sheets: Vec<u32> = sheets.collect();
+    if sheets.is_empty() {
+        return match case.order.is_none() {
+            true => Ok(()),
+            false => Err("an order, and nothing expected of it"),
+        };
+    }
+    case.order.buffer()?;
+    match (
+        sheets.contains(&0),
+        case.text.is_empty(),
+        &case.order.title_and_pairs,
+    ) {
+        (true, true, _) => Err("a sheet, and no text"),
+        (true, _, None) => Err("a sheet, and no title and pairs"),
+        (false, false, _) => Err("a text, and no sheet"),
         _ => Ok(()),
+    }
+}
+
+/// The number that a `sheet` line expects.
+fn sheet_number(expected: &Expectation) -> Option<u32> {
+    match expected {
+        Expectation::Sheet { answer, .. } => Some(answer.0),
+        _ => None,
     }
 }
 
@@ -177,7 +217,7 @@ fn parse_line(line: &str, directory: &Path, cases: &mut Vec<Case>) -> Result<(),
         alone(word, rest)?;
         return open_defaults(case);
     }
-    if add_text(word, rest, directory, case.open_text())? {
+    if add_text(word, rest, directory, case.open_text())? || case.order.add(word, rest)? {
         return Ok(());
     }
     case.expectations.push(expectation(word, rest)?);
@@ -264,12 +304,8 @@ fn expectation(word: &str, rest: &str) -> Result<Expectation, String> {
             }
         }
         "length" => {
-            let (length, answer) = rest.split_once(" -> ").ok_or("length LENGTH -> ANSWER")?;
-            let [given, count] = words(answer)?;
-            Expectation::Length {
-                length: number(length)?,
-                answer: (number(given)?, number(count)?),
-            }
+            let (length, answer) = counted(rest, "length LENGTH -> ANSWER")?;
+            Expectation::Length { length, answer }
         }
         "lookup" => lookup_expectation(rest)?,
         "defaulted" => defaulted_expectation(rest)?,
@@ -277,8 +313,19 @@ fn expectation(word: &str, rest: &str) -> Result<Expectation, String> {
         "stamp" => timestamp_expectation(rest)?,
         "planning" => planning_expectation(rest)?,
         "days" => days_expectation(rest)?,
+        "sheet" => {
+            let (room, answer) = counted(rest, "sheet ROOM -> ANSWER")?;
+            Expectation::Sheet { room, answer }
+        }
         _ => return Err(format!("unknown word {word:?}")),
     })
+}
+
+/// A number, and after the arrow an answer of a number and a count.
+fn counted(rest: &str, form: &str) -> Result<(usize, (u32, usize)), String> {
+    let (room, answer) = rest.split_once(" -> ").ok_or(form)?;
+    let [given, count] = words(answer)?;
+    Ok((number(room)?, (number(given)?, number(count)?)))
 }
 
 fn closer_expectation(rest: &str) -> Result<Expectation, String> {
@@ -564,6 +611,33 @@ mod tests {
             &[defaulted],
             &["defaults", "defaults", defaulted],
             &["defaults x", defaulted],
+        ] {
+            assert!(case(lines).is_err(), "{lines:?}");
+        }
+    }
+
+    #[test]
+    fn an_order_and_what_is_expected_of_it_belong_together() {
+        let (title, sheet, refused) = ("title \"\"", "sheet 22 -> 0 22", "sheet 0 -> 16 22");
+        let buffer = r#"buffer "\x00\x00\x00""#;
+        for lines in [
+            &[title, sheet, ">* ", refused][..],
+            &[title, buffer, sheet, ">* "],
+            &[title, refused],
+            &[buffer, refused],
+        ] {
+            assert!(case(lines).is_ok(), "{lines:?}");
+        }
+        for lines in [
+            &[title, "count 1"][..],
+            &[buffer, "count 1"],
+            &[refused],
+            &[title, sheet],
+            &[buffer, sheet, ">* "],
+            &[title, refused, ">* "],
+            &[title, r#"buffer "\x00""#, refused],
+            &[title, "sheet 22 -> 0"],
+            &[title, "sheet -> 16 22"],
         ] {
             assert!(case(lines).is_err(), "{lines:?}");
         }

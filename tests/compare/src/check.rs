@@ -21,7 +21,7 @@ const GUARD: usize = 9;
 pub const SMALL: usize = 400;
 
 /// The kind of a node property.
-const NODE_PROPERTY: u32 = 6;
+pub const NODE_PROPERTY: u32 = 6;
 
 /// How many answers of each number and records of each kind the plain reader gave, and how many of
 /// its lookups, with house defaults too, its lists, its searches for closers and its answers about

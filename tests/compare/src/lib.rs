@@ -2,6 +2,7 @@
 //! reader on seeded texts.
 
 pub mod case;
+pub mod case_order;
 pub mod check;
 pub mod dates;
 pub mod defaults;
@@ -10,9 +11,12 @@ pub mod escape;
 pub mod house;
 pub mod library;
 pub mod lists;
+pub mod order;
 pub mod parts;
+pub mod promise;
 pub mod proper;
 pub mod proper_lists;
+pub mod quoted;
 pub mod random;
 pub mod run;
 pub mod searches;

@@ -2,8 +2,9 @@
 
 use plain_reader::{Date, MomentNumbers, StampNumbers, NO_STAMP};
 
+/// The answer of a reading, and that of a sheet.
 #[repr(C)]
-struct ReadAnswer {
+struct CountAnswer {
     number: u32,
     count: usize,
 }
@@ -58,7 +59,7 @@ struct Days {
 #[link(name = "comaltzex", kind = "static")]
 extern "C" {
     /// `room` is how many numbers the table holds.
-    fn comaltzex_read(text: *const u8, len: usize, table: *mut u32, room: usize) -> ReadAnswer;
+    fn comaltzex_read(text: *const u8, len: usize, table: *mut u32, room: usize) -> CountAnswer;
 
     fn comaltzex_lookup(
         text: *const u8,
@@ -97,6 +98,13 @@ extern "C" {
         second_month: u32,
         second_day: u32,
     ) -> Days;
+
+    fn comaltzex_write_sheet(
+        order: *const u8,
+        order_len: usize,
+        out: *mut u8,
+        out_len: usize,
+    ) -> CountAnswer;
 }
 
 /// Reads `text` into `table`; gives the answer's number and count.
@@ -185,4 +193,18 @@ pub fn days_between(first: Date, second: Date) -> (u32, i32) {
         )
     };
     (answer.number, answer.days)
+}
+
+/// Writes the sheet of the order in `buffer` into `output`; gives the answer's number and count.
+pub fn write_sheet(buffer: &[u8], output: &mut [u8]) -> (u32, usize) {
+    // SAFETY: both pointers come with the length of the slice they belong to.
+    let answer = unsafe {
+        comaltzex_write_sheet(
+            buffer.as_ptr(),
+            buffer.len(),
+            output.as_mut_ptr(),
+            output.len(),
+        )
+    };
+    (answer.number, answer.count)
 }

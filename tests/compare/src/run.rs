@@ -6,17 +6,26 @@ use std::fmt::Debug;
 use plain_reader::{Date, NUMBERS_OF_A_RECORD};
 
 use crate::case::{Case, Expectation, ExpectedRecord, Numbers};
+use crate::case_order::CaseOrder;
 use crate::escape::escape;
+use crate::promise::check_promise;
 use crate::subject::{
-    fresh_table, CloserAnswer, DaysAnswer, DefaultedAnswer, LookupAnswer, PlanningAnswer,
-    ReadAnswer, Subject, TimestampAnswer,
+    fresh_output, fresh_table, CloserAnswer, DaysAnswer, DefaultedAnswer, LookupAnswer,
+    PlanningAnswer, ReadAnswer, SheetAnswer, Subject, TimestampAnswer,
 };
+
+/// Bytes past the lent output, which no call may touch.
+const GUARD: usize = 9;
+
+/// How many differing bytes are shown.
+const SHOWN: usize = 20;
 
 /// What `subject` answers otherwise than the case expects.
 pub fn differences(case: &Case, subject: &Subject) -> Vec<String> {
     let run = Run {
         text: &case.text,
         defaults: case.defaults.as_deref().unwrap_or_default(),
+        order: &case.order,
         subject,
         table: OnceCell::new(),
     };
@@ -27,6 +36,7 @@ pub fn differences(case: &Case, subject: &Subject) -> Vec<String> {
 struct Run<'c> {
     text: &'c [u8],
     defaults: &'c [u8],
+    order: &'c CaseOrder,
     subject: &'c Subject,
     /// The whole table, once it was read.
     table: OnceCell<Result<Vec<Numbers>, String>>,
@@ -75,6 +85,7 @@ impl Run<'_> {
                 second,
                 answer,
             } => self.check_days(*first, *second, answer),
+            Expectation::Sheet { room, answer } => self.check_sheet(*room, *answer),
         }
     }
 
@@ -185,6 +196,27 @@ impl Run<'_> {
         let seen = (self.subject.days_between)(first, second);
         same(&format!("days {first} {second}"), answer, &seen)
     }
+
+    /// The answer in so much room, every byte of the output and some past it, and what is promised
+    /// of a sheet.
+    fn check_sheet(&self, room: usize, answer: SheetAnswer) -> Result<(), String> {
+        let buffer = self.order.buffer()?;
+        let before = fresh_output(room + GUARD);
+        let mut output = before.clone();
+        let seen = (self.subject.write_sheet)(&buffer, &mut output[..room]);
+        same(&format!("answer in room {room}"), &answer, &seen)?;
+        let sheet = if answer.0 == 0 { self.text } else { &[] };
+        let rest = before.get(sheet.len()..).unwrap_or_default();
+        same_bytes(
+            &format!("output in room {room}"),
+            &[sheet, rest].concat(),
+            &output,
+        )?;
+        match &self.order.title_and_pairs {
+            Some(order) if answer.0 == 0 => check_promise(sheet, order.pairs(), self.subject),
+            _ => Ok(()),
+        }
+    }
 }
 
 fn numbers_of(record: &[u32]) -> Numbers {
@@ -198,4 +230,17 @@ fn same<T: PartialEq + Debug + ?Sized>(what: &str, expected: &T, seen: &T) -> Re
         return Ok(());
     }
     Err(format!("{what}: expected {expected:?}, seen {seen:?}"))
+}
+
+/// Of two lists of bytes only what differs is shown.
+fn same_bytes(what: &str, expected: &[u8], seen: &[u8]) -> Result<(), String> {
+    let mut both = expected.iter().zip(seen);
+    let differing = both.position(|(one, other)| one != other);
+    let from = differing.unwrap_or(expected.len().min(seen.len()));
+    let shown = |bytes: &[u8]| escape(&bytes[from..bytes.len().min(from + SHOWN)]);
+    same(
+        &format!("{what}, from byte {from} on"),
+        &shown(expected),
+        &shown(seen),
+    )
 }

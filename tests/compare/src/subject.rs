@@ -1,5 +1,5 @@
-//! What is tested: a reading call, a lookup, one with house defaults, a search for a closer, and
-//! the calls about dates.
+//! What is tested: a reading call, a lookup, one with house defaults, a search for a closer, the
+//! calls about dates, and the writing of a sheet.
 
 use plain_reader::{Date, StampNumbers};
 
@@ -28,6 +28,9 @@ pub type PlanningAnswer = (u32, [StampNumbers; 3]);
 /// The answer of a day count: its number and the days.
 pub type DaysAnswer = (u32, i32);
 
+/// The answer of a sheet call: its number and its count.
+pub type SheetAnswer = (u32, usize);
+
 #[derive(Clone, Copy)]
 pub struct Subject {
     pub name: &'static str,
@@ -38,6 +41,7 @@ pub struct Subject {
     pub timestamp: fn(&[u8], usize) -> TimestampAnswer,
     pub planning: fn(&[u8], usize) -> PlanningAnswer,
     pub days_between: fn(Date, Date) -> DaysAnswer,
+    pub write_sheet: fn(&[u8], &mut [u8]) -> SheetAnswer,
 }
 
 pub const PLAIN_READER: Subject = Subject {
@@ -49,6 +53,7 @@ pub const PLAIN_READER: Subject = Subject {
     timestamp: plain_reader::timestamp,
     planning: plain_reader::planning,
     days_between: plain_reader::days_between,
+    write_sheet: plain_reader::write_sheet,
 };
 
 pub const LIBRARY: Subject = Subject {
@@ -60,6 +65,7 @@ pub const LIBRARY: Subject = Subject {
     timestamp: library::timestamp,
     planning: library::planning,
     days_between: library::days_between,
+    write_sheet: library::write_sheet,
 };
 
 /// A table as it is before a call: no two neighbouring numbers are equal, and none is one that a
@@ -67,5 +73,12 @@ pub const LIBRARY: Subject = Subject {
 pub fn fresh_table(length: usize) -> Vec<u32> {
     (0..length as u32)
         .map(|place| 0xABCD_0000 ^ place)
+        .collect()
+}
+
+/// An output as it is before a call: no two neighbouring bytes are equal, and none is ASCII.
+pub fn fresh_output(length: usize) -> Vec<u8> {
+    (0..length)
+        .map(|place| 0x80 | (place % 127) as u8)
         .collect()
 }
