@@ -162,21 +162,16 @@ fn check_meaning(case: &Case) -> Result<(), &'static str> {
 fn check_order(case: &Case) -> Result<(), &'static str> {
     let sheets = case.expectations.iter().filter_map(sheet_number);
     let sheets: Vec<u32> = sheets.collect();
-    if sheets.is_empty() {
-        return match case.order.is_none() {
-            true => Ok(()),
-            false => Err("an order, and nothing expected of it"),
-        };
-    }
-    case.order.buffer()?;
-    match (
-        sheets.contains(&0),
-        case.text.is_empty(),
-        &case.order.title_and_pairs,
-    ) {
-        (true, true, _) => Err("a sheet, and no text"),
-        (true, _, None) => Err("a sheet, and no title and pairs"),
-        (false, false, _) => Err("a text, and no sheet"),
+    match (case.order.is_empty(), sheets.is_empty()) {
+        (true, true) => return Ok(()),
+        (false, true) => return Err("an order, and nothing expected of it"),
+        _ => case.order.buffer()?,
+    };
+    let has_pairs = case.order.title_and_pairs.is_some();
+    match (sheets.contains(&0), case.text.is_empty()) {
+        (true, true) => Err("a sheet, and no text"),
+        (true, false) if !has_pairs => Err("a sheet, and no title and pairs"),
+        (false, false) => Err("a text, and no sheet"),
         _ => Ok(()),
     }
 }

@@ -45,7 +45,7 @@ impl CaseOrder {
         Ok(())
     }
 
-    pub fn is_none(&self) -> bool {
+    pub fn is_empty(&self) -> bool {
         self.title_and_pairs.is_none() && self.written_buffer.is_none()
     }
 

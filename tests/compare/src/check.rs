@@ -10,6 +10,7 @@ use crate::lists::{self, count_lists};
 use crate::proper::check_proper;
 use crate::random::Random;
 use crate::searches::{self, check_searches};
+use crate::sheet_situations;
 use crate::situations;
 use crate::subject::{fresh_table, LIBRARY, PLAIN_READER};
 use crate::words::{BAD_KEYS, KEYS};
@@ -24,8 +25,8 @@ pub const SMALL: usize = 400;
 pub const NODE_PROPERTY: u32 = 6;
 
 /// How many answers of each number and records of each kind the plain reader gave, and how many of
-/// its lookups, with house defaults too, its lists, its searches for closers and its answers about
-/// dates met what.
+/// its lookups, with house defaults too, its lists, its searches for closers, its answers about
+/// dates and its sheets met what.
 pub struct Tally {
     pub readings: [usize; 4],
     pub lookups: [usize; 11],
@@ -35,6 +36,7 @@ pub struct Tally {
     pub lists: lists::Met,
     pub searches: searches::Met,
     pub dates: DateTally,
+    pub sheets: sheet_situations::Met,
 }
 
 impl Default for Tally {
@@ -48,6 +50,7 @@ impl Default for Tally {
             lists: [0; lists::COUNT],
             searches: Default::default(),
             dates: Default::default(),
+            sheets: [0; sheet_situations::SITUATIONS.len()],
         }
     }
 }

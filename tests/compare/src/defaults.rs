@@ -6,7 +6,7 @@ use plain_reader::{Reading, Record};
 
 use crate::check::{other_case, property_name, star_places};
 use crate::drawers::HEADING;
-use crate::escape::escape;
+use crate::escape::{escape, shown};
 use crate::house::defaults_text;
 use crate::random::Random;
 use crate::situations::{Call, Met};
@@ -15,9 +15,6 @@ use crate::words::{BAD_KEYS, KEYS, RESERVED_KEYS};
 
 /// The kind of a property drawer.
 const PROPERTY_DRAWER: u32 = 5;
-
-/// The longest defaults text that is printed whole.
-const SHOWN: usize = 1_000;
 
 /// Calls at headings of the order, with a drawer and without, and at another place; all with one
 /// defaults text.
@@ -98,7 +95,7 @@ fn check_call(
         "lookup of \"{}\" at {at} with defaults {}: plain reader {answer:?}, library {seen:?}, \
          by its own lookups {promised:?}",
         escape(key),
-        defaults.told()
+        shown(&defaults.text)
     ))
 }
 
@@ -149,13 +146,6 @@ impl Defaults {
             FirstHeading::At(start) => Some((LIBRARY.lookup)(&self.text, *start, key)),
             FirstHeading::Nowhere => Some((4, 0, 0, 0)),
             FirstHeading::Unknown => None,
-        }
-    }
-
-    fn told(&self) -> String {
-        match self.text.len() {
-            0..=SHOWN => format!("\"{}\"", escape(&self.text)),
-            length => format!("of {length} bytes"),
         }
     }
 }

@@ -1,5 +1,16 @@
 //! Bytes as readable text and back: `\n`, `\r`, `\t`, `\s` (byte 32), `\\`, `\"` and `\xNN`.
 
+/// The most bytes that are shown whole.
+const SHOWN: usize = 1_000;
+
+/// `bytes` in double quotes, or how many there are.
+pub fn shown(bytes: &[u8]) -> String {
+    match bytes.len() {
+        0..=SHOWN => format!("\"{}\"", escape(bytes)),
+        length => format!("of {length} bytes"),
+    }
+}
+
 /// `bytes` in printable ASCII. Byte 32 stands for itself.
 pub fn escape(bytes: &[u8]) -> String {
     bytes.iter().map(|byte| escape_byte(*byte)).collect()

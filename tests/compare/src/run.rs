@@ -8,17 +8,12 @@ use plain_reader::{Date, NUMBERS_OF_A_RECORD};
 use crate::case::{Case, Expectation, ExpectedRecord, Numbers};
 use crate::case_order::CaseOrder;
 use crate::escape::escape;
+use crate::output::{check_output, fresh_output};
 use crate::promise::check_promise;
 use crate::subject::{
-    fresh_output, fresh_table, CloserAnswer, DaysAnswer, DefaultedAnswer, LookupAnswer,
-    PlanningAnswer, ReadAnswer, SheetAnswer, Subject, TimestampAnswer,
+    fresh_table, CloserAnswer, DaysAnswer, DefaultedAnswer, LookupAnswer, PlanningAnswer,
+    ReadAnswer, SheetAnswer, Subject, TimestampAnswer,
 };
-
-/// Bytes past the lent output, which no call may touch.
-const GUARD: usize = 9;
-
-/// How many differing bytes are shown.
-const SHOWN: usize = 20;
 
 /// What `subject` answers otherwise than the case expects.
 pub fn differences(case: &Case, subject: &Subject) -> Vec<String> {
@@ -201,17 +196,13 @@ impl Run<'_> {
     /// of a sheet.
     fn check_sheet(&self, room: usize, answer: SheetAnswer) -> Result<(), String> {
         let buffer = self.order.buffer()?;
-        let before = fresh_output(room + GUARD);
+        let before = fresh_output(room);
         let mut output = before.clone();
         let seen = (self.subject.write_sheet)(&buffer, &mut output[..room]);
         same(&format!("answer in room {room}"), &answer, &seen)?;
         let sheet = if answer.0 == 0 { self.text } else { &[] };
         let rest = before.get(sheet.len()..).unwrap_or_default();
-        same_bytes(
-            &format!("output in room {room}"),
-            &[sheet, rest].concat(),
-            &output,
-        )?;
+        check_output(&[sheet, rest].concat(), &output)?;
         match &self.order.title_and_pairs {
             Some(order) if answer.0 == 0 => check_promise(sheet, order.pairs(), self.subject),
             _ => Ok(()),
@@ -230,17 +221,4 @@ fn same<T: PartialEq + Debug + ?Sized>(what: &str, expected: &T, seen: &T) -> Re
         return Ok(());
     }
     Err(format!("{what}: expected {expected:?}, seen {seen:?}"))
-}
-
-/// Of two lists of bytes only what differs is shown.
-fn same_bytes(what: &str, expected: &[u8], seen: &[u8]) -> Result<(), String> {
-    let mut both = expected.iter().zip(seen);
-    let differing = both.position(|(one, other)| one != other);
-    let from = differing.unwrap_or(expected.len().min(seen.len()));
-    let shown = |bytes: &[u8]| escape(&bytes[from..bytes.len().min(from + SHOWN)]);
-    same(
-        &format!("{what}, from byte {from} on"),
-        &shown(expected),
-        &shown(seen),
-    )
 }

@@ -75,10 +75,3 @@ pub fn fresh_table(length: usize) -> Vec<u32> {
         .map(|place| 0xABCD_0000 ^ place)
         .collect()
 }
-
-/// An output as it is before a call: no two neighbouring bytes are equal, and none is ASCII.
-pub fn fresh_output(length: usize) -> Vec<u8> {
-    (0..length)
-        .map(|place| 0x80 | (place % 127) as u8)
-        .collect()
-}

@@ -15,6 +15,30 @@ pub const BAD_KEYS: &[&[u8]] = &[
     b"", b"a+", b"+", b"a b", b" vin", b"vin\n", b"v\tin", b"vin\r", NAME_OF_65,
 ];
 
+/// Keys that the lookup takes and a sheet may not have.
+pub const END_KEYS: &[&[u8]] = &[b"END", b"end", b"eNd"];
+
+/// Keys of orders; no two are the same, case ignored.
+#[rustfmt::skip]
+pub const SHEET_KEYS: &[&[u8]] = &[
+    b"VIN", b"REQUEST", b"a", b"B", b"a:b", b":", b"+c", b"Fuel", b"\xC3\xA9", b"[", b"{", b"@", b"`",
+    b"ENDS", b"PROPERTIES", NAME_OF_64, b"#", b"\x0B", b"VI", b"\xFF",
+];
+
+/// Titles and values of orders.
+#[rustfmt::skip]
+pub const SHEET_TEXTS: &[&[u8]] = &[
+    b"", b"", b"7", b"WVWZZZ1JZXW000001", b"Stage 1", b"a \t b", b"** B", b":END:", b":PROPERTIES:", b":",
+    b"#+begin_src", b"CLOSED: [2026-01-05]", b"\x00", b"\x0B\xA0", b"\xC3\xA9", &[b'v'; 256], &[b'v'; 258],
+];
+
+/// Titles and values that a sheet may not have.
+#[rustfmt::skip]
+pub const BAD_TEXTS: &[&[u8]] = &[
+    b" ", b"\t", b"\n", b"\r", b"a\nb", b"a\rb", b"a\n", b"\na", b"a\r", b"\ra", b" a", b"a ", b"\ta",
+    b"a\t",
+];
+
 /// Keys that are never taken from the defaults.
 #[rustfmt::skip]
 pub const RESERVED_KEYS: &[&[u8]] = &[

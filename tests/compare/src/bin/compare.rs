@@ -12,6 +12,8 @@ use comparison::escape::escape;
 use comparison::lists;
 use comparison::random::Random;
 use comparison::searches::MEETINGS;
+use comparison::sheet_situations;
+use comparison::sheets::check_sheets;
 use comparison::situations::SITUATIONS;
 use comparison::texts::{text, CLASSES};
 
@@ -45,7 +47,8 @@ fn main() -> ExitCode {
             report(text);
             return ExitCode::FAILURE;
         }
-        if let Err(difference) = check_days(&mut random, &mut tally.dates) {
+        let days = check_days(&mut random, &mut tally.dates);
+        if let Err(difference) = days.and_then(|()| check_sheets(&mut random, &mut tally.sheets)) {
             println!("seed {seed}: {difference}");
             return ExitCode::FAILURE;
         }
@@ -53,8 +56,8 @@ fn main() -> ExitCode {
     println!("{}", summary(count, &texts, &tally));
     if count >= COUNT && !sees_all(&texts, &tally) {
         eprintln!(
-            "compare: a class of text, an answer, a kind, a sort of lookup, list, search or date never \
-             came"
+            "compare: a class of text, an answer, a kind, a sort of lookup, list, search, date or \
+             sheet never came"
         );
         return ExitCode::FAILURE;
     }
@@ -62,7 +65,8 @@ fn main() -> ExitCode {
 }
 
 /// Did each class of text, each answer of readings and lookups, each kind of record and each sort
-/// of lookup, with defaults too, of list, of search for a closer and of answer about dates come?
+/// of lookup, with defaults too, of list, of search for a closer, of answer about dates and of sheet
+/// come?
 fn sees_all(texts: &[usize], tally: &Tally) -> bool {
     let lookups = [0, 1, 4, 5, 6, 7, 8, 9, 10].map(|number| tally.lookups[number]);
     let kinds = &tally.kinds[1..];
@@ -78,6 +82,7 @@ fn sees_all(texts: &[usize], tally: &Tally) -> bool {
         &tally.lists,
         &tally.searches,
         &dates,
+        &tally.sheets,
     ]
     .concat();
     seen.iter().all(|count| *count > 0)
@@ -105,12 +110,14 @@ fn summary(count: u64, texts: &[usize], tally: &Tally) -> String {
     let lists = by_name(lists::names().zip(tally.lists));
     let searches = MEETINGS.iter().map(|(meeting, _)| *meeting);
     let searches = by_name(searches.zip(tally.searches));
+    let sheets = sheet_situations::SITUATIONS.iter();
+    let sheets = by_name(sheets.map(|(situation, _)| *situation).zip(tally.sheets));
     let dates = tally.dates.seen();
     let dates = dates.map(|(about, seen)| format!("{about}: {}", by_name(seen.into_iter())));
     format!(
         "compare: {count} texts agree ({}); readings by number {}; lookups by number {}; \
          drawers: {drawers}; defaults: {defaults}; records by kind {}; lists: {lists}; \
-         searches for closers: {searches}; {}",
+         searches for closers: {searches}; {}; sheets: {sheets}",
         classes.join(", "),
         by_number(&tally.readings),
         by_number(&tally.lookups),
