@@ -1,5 +1,5 @@
 //! Tests of the library from outside: by hand-written cases, and by comparison with the plain
-//! reader on seeded texts.
+//! reader on seeded texts and orders.
 
 pub mod case;
 pub mod case_order;

@@ -1,13 +1,12 @@
 //! Seeded orders: good ones, such with faults, and such whose buffer is damaged (document 02, order
 //! 5).
 
+use plain_reader::LONGEST_TEXT;
+
 use crate::check::other_case;
 use crate::order::{joined, Order, Part};
 use crate::random::Random;
 use crate::words::{BAD_KEYS, BAD_TEXTS, END_KEYS, SHEET_KEYS, SHEET_TEXTS};
-
-/// The length of the longest sheet.
-pub const LONGEST: usize = 65_536;
 
 /// What an order may have that a sheet may not.
 #[derive(Clone, Copy, Debug, PartialEq, Eq)]
@@ -74,7 +73,7 @@ fn good_order(random: &mut Random) -> Order {
             .collect(),
     };
     if random.below(1000) < 2 {
-        grow(&mut order, LONGEST - random.below(2), random);
+        grow(&mut order, LONGEST_TEXT - random.below(2), random);
     }
     order
 }
@@ -120,9 +119,9 @@ fn add_fault(fault: Fault, order: &mut Order, random: &mut Random) {
         }
         Fault::Length => {
             let over = [1, 2, 21][random.below(3)];
-            grow(order, LONGEST + over, random);
+            grow(order, LONGEST_TEXT + over, random);
             if random.chance(25) {
-                let value = vec![b'x'; LONGEST - 1];
+                let value = vec![b'x'; LONGEST_TEXT - 1];
                 order.pairs.push((b"longest".to_vec(), value));
             }
         }
@@ -248,5 +247,28 @@ fn loose_byte(random: &mut Random) -> u8 {
     match random.chance(90) {
         true => BYTES[random.below(BYTES.len())],
         false => random.below(256) as u8,
+    }
+}
+
+#[cfg(test)]
+mod tests {
+    use super::*;
+    use plain_reader::write_sheet;
+
+    #[test]
+    fn an_order_is_refused_for_its_faults_and_no_others() {
+        for seed in 0..3_000 {
+            let seeded = seeded_order(&mut Random::new(seed));
+            if seeded.damage.is_some() {
+                continue;
+            }
+            let (number, count) = write_sheet(&seeded.buffer, &mut []);
+            let is_good = seeded.faults.is_empty();
+            assert_eq!(number == 16, is_good, "seed {seed}, {:?}", seeded.faults);
+            assert!(
+                !is_good || count == seeded.order.sheet_length(),
+                "seed {seed}"
+            );
+        }
     }
 }

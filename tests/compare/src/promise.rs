@@ -59,3 +59,41 @@ fn check_kinds(sheet: &[u8], kinds: &[u32], subject: &Subject) -> Result<(), Str
         table[STARS]
     ))
 }
+
+#[cfg(test)]
+mod tests {
+    use super::*;
+    use crate::subject::PLAIN_READER;
+
+    /// Is the promise of the pairs `Vin`, `7` and `a`, nothing, kept?
+    fn is_kept(sheet: &str) -> bool {
+        let pairs = [("Vin", "7"), ("a", "")].map(|(key, value)| Pair {
+            key: key.as_bytes(),
+            value: value.as_bytes(),
+        });
+        check_promise(sheet.as_bytes(), pairs.into_iter(), &PLAIN_READER).is_ok()
+    }
+
+    #[test]
+    fn one_heading_with_one_property_drawer() {
+        assert!(is_kept("* T\n:PROPERTIES:\n:Vin: 7\n:a:\n:END:\n"));
+        assert!(is_kept("* \n:PROPERTIES:\n:a:\n:VIN: 7\n:END:"));
+    }
+
+    #[test]
+    fn other_sheets_break_it() {
+        for sheet in [
+            "",
+            "* T\n:PROPERTIES:\n:Vin: 8\n:a:\n:END:\n",
+            "* T\n:PROPERTIES:\n:Vin: 7\n:b:\n:END:\n",
+            "* T\n:PROPERTIES:\n:Vin: 7\n:a: 1\n:END:\n",
+            "* T\n:PROPERTIES:\n:Vin: 7\n:a:\n:b:\n:END:\n",
+            "* T\n:PROPERTIES:\n:Vin: 7\n:a:\n:END:\nx\n",
+            "* T\n:PROPERTIES:\n:Vin: 7\n:a:\n:END:\n* B\n",
+            "** T\n:PROPERTIES:\n:Vin: 7\n:a:\n:END:\n",
+            "* T\n\n:PROPERTIES:\n:Vin: 7\n:a:\n:END:\n",
+        ] {
+            assert!(!is_kept(sheet), "{sheet:?}");
+        }
+    }
+}

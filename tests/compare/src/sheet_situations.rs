@@ -1,7 +1,9 @@
 //! What a sheet call may meet (document 02, order 5).
 
+use plain_reader::LONGEST_TEXT;
+
 use crate::order::Part;
-use crate::orders::{Damage, Fault, Seeded, LONGEST};
+use crate::orders::{Damage, Fault, Seeded};
 use crate::subject::SheetAnswer;
 use crate::words::{BAD_KEYS, BAD_TEXTS, END_KEYS};
 
@@ -35,7 +37,7 @@ pub const SITUATIONS: [(&str, Meets); 62] = [
         call.wrote_value(|value| value.contains(&9))
     }),
     ("65,536 bytes", |call| {
-        call.gave(0) && call.answer.1 == LONGEST
+        call.gave(0) && call.answer.1 == LONGEST_TEXT
     }),
     ("written though changed", |call| {
         call.gave(0) && call.has_damage(Damage::Changed)
@@ -120,10 +122,10 @@ pub const SITUATIONS: [(&str, Meets); 62] = [
         call.has_only(15, Fault::Repeated) && !call.is_copied()
     }),
     ("1 65,537 bytes", |call| {
-        call.gave(1) && call.made_length() == LONGEST + 1
+        call.gave(1) && call.made_length() == LONGEST_TEXT + 1
     }),
     ("1 from over 65,536 bytes", |call| {
-        call.gave(1) && call.seeded.buffer.len() > LONGEST
+        call.gave(1) && call.seeded.buffer.len() > LONGEST_TEXT
     }),
     ("1 in room enough", |call| {
         call.gave(1) && call.room >= call.made_length()

@@ -1,6 +1,6 @@
 //! Seeded orders against both readers: the sheets written from them (document 02, order 5).
 
-use plain_reader::Order;
+use plain_reader::{Order, LONGEST_TEXT};
 
 use crate::escape::shown;
 use crate::orders::{seeded_order, Seeded};
@@ -9,6 +9,9 @@ use crate::promise::check_promise;
 use crate::random::Random;
 use crate::sheet_situations::{Call, Met};
 use crate::subject::{SheetAnswer, LIBRARY, PLAIN_READER};
+
+/// Room for most of the sheets that are too long.
+const MUCH_ROOM: usize = 66_000;
 
 /// One order in several rooms, and what is promised of its sheet.
 pub fn check_sheets(random: &mut Random, met: &mut Met) -> Result<(), String> {
@@ -39,7 +42,7 @@ fn rooms(without_room: SheetAnswer, random: &mut Random) -> Vec<usize> {
             need + random.between(1, 40),
             random.below(need),
         ],
-        (1, _) => vec![0, random.below(65_536), 66_000],
+        (1, _) => vec![0, random.below(LONGEST_TEXT), MUCH_ROOM],
         _ => vec![0, random.between(1, 400)],
     }
 }

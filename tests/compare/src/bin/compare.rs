@@ -1,6 +1,6 @@
-//! `compare [COUNT] [SEED]`: compares the library with the plain reader on seeded texts.
+//! `compare [COUNT] [SEED]`: compares the library with the plain reader on seeded texts and orders.
 //!
-//! Text number k of a run is the first text of a run with the seed SEED + k.
+//! Text and order number k of a run are the first of a run with the seed SEED + k.
 
 use std::process::ExitCode;
 use std::time::{Duration, Instant};
