@@ -267,11 +267,11 @@ impl<'s> Call<'s> {
         (0..keys.len()).any(|place| keys[..place].contains(&keys[place]))
     }
 
-    /// A whole buffer has a bad key, and up to its pair no bad title or value.
+    /// In a whole buffer a bad key stands in an earlier pair than any bad value; the title is good.
     fn is_bad_key_first(&self) -> bool {
         let bad_key = self.keys().position(is_bad_key);
         let bad_value = self.values().position(is_bad_text);
-        let is_first = bad_key.is_some() && bad_value.is_none_or(|value| bad_key < Some(value));
+        let is_first = matches!((bad_key, bad_value), (Some(key), Some(value)) if key < value);
         self.seeded.damage.is_none() && !is_bad_text(self.title()) && is_first
     }
 }
