@@ -67,7 +67,7 @@ fn is_bad_name(key: &[u8]) -> bool
     is_bad_key(key) || is_word(key, 0, key.len(), b"END")
 }
 
-// Whether one of so many keys is.
+// Whether one of so many keys is bad, or `END`.
 pub fn has_bad_name(buffer: &[u8], start: usize, count: usize) -> bool
     requires { ⌜ HasPairs (now buffer) start count ⌝ }
     ensures { λ r. ⌜ r ≡ somePair (λ p. isBadName (p .key)) (pairsAt (now (buffer .entry)) start count) ⌝ }

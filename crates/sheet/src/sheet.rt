@@ -1,5 +1,4 @@
 // The lines of a sheet, laid over an output.  [02 order 5]
-ghost use mathlib.Core.Path.{_≡_};
 ghost use Prim.Native.Nat.{_+_, _≤_};
 ghost use lib.ListN.{length};
 ghost use Rattle.text.specs.Parts.{part};

@@ -1,6 +1,6 @@
 -- Laws of the answer to an order: 1 and 16 in turn, and what is left in the output.
-use mathlib.Core.Path.{_≡_, refl, ap, _∙_}
-use mathlib.Core.List.{List, _++_}
+use mathlib.Core.Path.{_≡_, ap}
+use mathlib.Core.List.{List}
 use Prim.Native.Nat.{ℕ, _≤_, _<_}
 use native.Mathlib.Omega.{arith}
 use lib.Dec.{leb}
@@ -20,7 +20,8 @@ use Rattle.sheet.specs.Promises.{Answers}
 use Rattle.sheet.proofs.Laws.Output.{laid-front}
 
 -- an answer of a number and a count, and the output that is left
-pub answers : {r : Written} {n c : ℕ} {t t′ : List ℕ} {w : Outcome} → r ≡ record { number = n; count = c } → t′ ≡ t → w ≡ outcome n c t → Answers r t′ w
+pub answers : {r : Written} {n c : ℕ} {t t′ : List ℕ} {w : Outcome} → r ≡ record { number = n; count = c } → t′ ≡ t → w ≡ outcome n c t
+    → Answers r t′ w
 answers h i j = rw j (record { number = ap (λ (r : Written). r .number) h; count = ap (λ (r : Written). r .count) h; output = i })
 
 module _ (x t : List ℕ) where

@@ -1,16 +1,16 @@
 -- Laws of what is read of a buffer at a byte: a number low first, bytes after their length, a pair.
-use mathlib.Core.Path.{_≡_, refl, sym, ap, _∙_}
-use mathlib.Core.List.{List, [], _∷_}
-use mathlib.Core.Option.{Option, none, some}
+use mathlib.Core.Path.{_≡_}
+use mathlib.Core.List.{List}
+use mathlib.Core.Option.{none, some}
 use Prim.Native.Nat.{ℕ, zero, suc, _+_, _-_, _*_, _≤_, _<_}
 use native.Mathlib.Omega.{arith}
 use native.Mathlib.Numerals.{add-one}
-use lib.ListN.{length, take, drop, getD, length-drop}
+use lib.ListN.{length, drop, getD, length-drop}
 use lib.Seq.{drop-drop}
 use borrow.Author.Tests.{le-leb, lt-leb}
 use Rattle.text.specs.Parts.{part}
 use Rattle.text.proofs.Laws.Parts.{part-nil, part-cons, part-slice}
-use Rattle.sheet.specs.Buffer.{Cut, cutAs, cut, lowFirst, sized}
+use Rattle.sheet.specs.Buffer.{cutAs, cut, lowFirst, sized}
 use Rattle.sheet.specs.Spans.{widest, reach}
 
 -- ---- a number, low byte first

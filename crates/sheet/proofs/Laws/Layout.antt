@@ -1,8 +1,8 @@
 -- Laws of the order in a buffer whose title ends at a byte: the count byte, and the pairs after it.
-use mathlib.Core.Path.{_≡_, refl, sym, ap, _∙_}
+use mathlib.Core.Path.{_≡_, _∙_}
 use mathlib.Core.Bool.{true, false, true≢false, false≢true}
-use mathlib.Core.List.{List, []}
-use mathlib.Core.Option.{Option·getD, none, some}
+use mathlib.Core.List.{List}
+use mathlib.Core.Option.{none, some}
 use Prim.Native.Nat.{ℕ, _+_, _≤_, _<_}
 use native.Mathlib.Omega.{arith}
 use lib.ListN.{length, drop, getD}
@@ -10,8 +10,7 @@ use borrow.Author.Tests.{lt-leb}
 use Rattle.text.specs.Parts.{part}
 use Rattle.rules.specs.Items.{isSome}
 use Rattle.rules.proofs.Basics.{options}
-use Rattle.sheet.specs.Order.{Pair, Order}
-use Rattle.sheet.specs.Buffer.{pairLimit, textWidth, cutAs, andThen, cut, lowFirst, sized, pairsIn, fewPairsIn, orderIn}
+use Rattle.sheet.specs.Buffer.{pairLimit, textWidth, cutAs, andThen, sized, pairsIn, fewPairsIn, orderIn}
 use Rattle.sheet.specs.Spans.{arePairs, pairsAt}
 use Rattle.sheet.proofs.Laws.Buffer.{cut-yes, cut-no, low-byte}
 use Rattle.sheet.proofs.Laws.Forms.{fewPairsIn-given}

@@ -3,9 +3,9 @@ use mathlib.Core.Path.{_≡_, refl, sym, ap, _∙_}
 use mathlib.Core.List.{List, [], _++_, append-assoc}
 use Prim.Native.Nat.{ℕ, suc, _+_, _≤_, _<_}
 use native.Mathlib.Omega.{arith}
-use native.Mathlib.Nat.{zero-add, add-zero}
+use native.Mathlib.Nat.{zero-add}
 use native.Mathlib.Numerals.{add-one}
-use lib.ListN.{length, take, drop, set, getD, length-append, length-drop, take-append-drop}
+use lib.ListN.{length, take, drop, set, getD, length-append}
 use lib.Seq.{length-take-le, take-length, take-at, drop-at, drop-drop, paste, paste-zero, paste-suc, length-paste}
 use Rattle.sheet.specs.Output.{laid, Puts}
 
@@ -33,11 +33,14 @@ module _ (d : List ℕ) (a : ℕ) (x : List ℕ) where
     front-length : length (take a d ++ x) ≡ a + length x
     front-length = omega (arith, length-append (take a d) x, length-take-le a d (omega arith))
 
-    laid-take : take (a + length x) (laid d a x) ≡ take a d ++ x
-    laid-take = rw (laid-is d a x, ← append-assoc (take a d) x (drop (a + length x) d)) (take-at (take a d ++ x) (drop (a + length x) d) (a + length x) front-length)
+    abbrev rest : List ℕ
+    rest = drop (a + length x) d
 
-    laid-drop : drop (a + length x) (laid d a x) ≡ drop (a + length x) d
-    laid-drop = rw (laid-is d a x, ← append-assoc (take a d) x (drop (a + length x) d)) (drop-at (take a d ++ x) (drop (a + length x) d) (a + length x) front-length)
+    laid-take : take (a + length x) (laid d a x) ≡ take a d ++ x
+    laid-take = rw (laid-is d a x, ← append-assoc (take a d) x rest) (take-at (take a d ++ x) rest (a + length x) front-length)
+
+    laid-drop : drop (a + length x) (laid d a x) ≡ rest
+    laid-drop = rw (laid-is d a x, ← append-assoc (take a d) x rest) (drop-at (take a d ++ x) rest (a + length x) front-length)
 
     -- one piece after another
     laid-append : (y : List ℕ) → laid (laid d a x) (a + length x) y ≡ laid d a (x ++ y)
@@ -56,7 +59,8 @@ laid-front d x = rw (zero-add (length x))
 pub puts-nil : (d : List ℕ) (a : ℕ) → Puts d a [] d a
 puts-nil d a = record { output = laid-none d a []; next = omega arith }
 
-pub puts-append : {d d′ d″ x y : List ℕ} {a b e : ℕ} → Puts d a x d′ b → Puts d′ b y d″ e → a + length x ≤ length d → Puts d a (x ++ y) d″ e
+pub puts-append : {d d′ d″ x y : List ℕ} {a b e : ℕ} → Puts d a x d′ b → Puts d′ b y d″ e → a + length x ≤ length d
+    → Puts d a (x ++ y) d″ e
 puts-append {d} {d′} {d″} {x} {y} {a} p q h = record {
   output = q .output ∙ rw (p .output, p .next) (laid-append d a x h y);
   next = omega (arith, p .next, q .next, length-append x y);

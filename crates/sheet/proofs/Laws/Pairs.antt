@@ -1,13 +1,12 @@
 -- Laws of the pairs that stand from a byte on: the first of them, and what is left.
-use mathlib.Core.Path.{_≡_, refl, sym, ap, _∙_}
+use mathlib.Core.Path.{_≡_, refl, sym, _∙_}
 use mathlib.Core.Bool.{Bool, true, false, false≢true}
 use mathlib.Core.List.{List, [], _∷_}
-use mathlib.Core.Option.{Option·getD, none, some}
+use mathlib.Core.Option.{none, some}
 use Prim.Native.Nat.{ℕ, zero, suc, _-_, _≤_, _<_}
 use native.Mathlib.Omega.{arith}
-use lib.Dec.{eqb}
-use lib.ListN.{length, drop, length-drop, drop-of-length-le}
-use borrow.Author.Tests.{eq-eqb, ne-eqb, eqb-true, eqb-false}
+use lib.Dec.{eqb, eqb·zero-suc, eqb·suc-suc}
+use lib.ListN.{length, drop}
 use borrow.Table.Steps.{cases}
 use Rattle.text.specs.Runs.{isEmpty, same}
 use Rattle.rules.specs.Items.{isSome}
@@ -36,19 +35,16 @@ module _ (n : ℕ) (y : List ℕ) where
 isEmpty-drop : (x : List ℕ) (p : ℕ) → p ≤ length x → isEmpty (drop p x) ≡ eqb p (length x)
 unfolding isEmpty
 isEmpty-drop [] p h = let e : p ≡ 0 = omega arith in rw e
-isEmpty-drop (b ∷ x) zero h = sym (ne-eqb 0 (suc (length x)) (λ e. omega arith))
-isEmpty-drop (b ∷ x) (suc p) h = isEmpty-drop x p (omega arith) ∙ same
-  where
-    same : eqb p (length x) ≡ eqb (suc p) (suc (length x))
-    same = cases (eqb p (length x))
-        (λ e. rw (e, eq-eqb (suc p) (suc (length x)) (ap suc (eqb-true p (length x) e))))
-        (λ e. rw (e, ne-eqb (suc p) (suc (length x)) (λ i. eqb-false p (length x) e (omega arith))))
+isEmpty-drop (b ∷ x) zero h = rw eqb·zero-suc
+isEmpty-drop (b ∷ x) (suc p) h = rw eqb·suc-suc (isEmpty-drop x p (omega arith))
 
 module _ (x : List ℕ) (p : ℕ) where
   pub arePairs-none : (n : ℕ) → n ≤ 0 → p ≤ length x → arePairs x p n ≡ eqb p (length x)
   unfolding arePairs pairsIn isSome
   arePairs-none (suc n) i h = absurd (omega arith)
-  arePairs-none zero i h = cases (isEmpty (drop p x)) (λ e. rw (e, pairsIn) (sym e ∙ isEmpty-drop x p h)) (λ e. rw (e, pairsIn) (sym e ∙ isEmpty-drop x p h))
+  arePairs-none zero i h =
+      let last = isEmpty-drop x p h in
+      cases (isEmpty (drop p x)) (λ e. rw (e, pairsIn) (sym e ∙ last)) (λ e. rw (e, pairsIn) (sym e ∙ last))
 
   pub pairsAt-none : (n : ℕ) → n ≤ 0 → pairsAt x p n ≡ []
   unfolding pairsAt pairsIn
@@ -60,7 +56,8 @@ module _ (x : List ℕ) (p : ℕ) where
   arePairs-no zero h i = absurd (omega arith)
   arePairs-no (suc n) h i = rw (pairsIn-no n (drop p x) i)
 
-  pub arePairs-step : (n : ℕ) → 0 < n → (c : PairCut) (e : ℕ) → pairIn (drop p x) ≡ some c → c .rest ≡ drop e x → arePairs x p n ≡ arePairs x e (n - 1)
+  pub arePairs-step : (n : ℕ) → 0 < n → (c : PairCut) (e : ℕ) → pairIn (drop p x) ≡ some c → c .rest ≡ drop e x
+      → arePairs x p n ≡ arePairs x e (n - 1)
   unfolding arePairs isSome
   arePairs-step zero h c e i j = absurd (omega arith)
   arePairs-step (suc n) h c e i j =

@@ -1,7 +1,7 @@
 -- Laws of how long the lines of a sheet are.
 use mathlib.Core.Path.{_≡_, refl, sym, ap, _∙_}
 use mathlib.Core.List.{List, [], _∷_, _++_, append-nil, append-assoc}
-use Prim.Native.Nat.{ℕ, suc, _+_, _-_, _≤_, _<_}
+use Prim.Native.Nat.{ℕ, _+_, _-_, _≤_, _<_}
 use native.Mathlib.Omega.{arith}
 use lib.ListN.{length, length-append}
 use Rattle.text.specs.Lines.{Line}
@@ -9,7 +9,7 @@ use Rattle.text.specs.Runs.{word}
 use Rattle.text.specs.Parts.{part}
 use Rattle.text.proofs.Laws.Parts.{part-length}
 use Rattle.sheet.specs.declared.pairs.PairSpan.{PairSpan}
-use Rattle.sheet.specs.Order.{Pair, pair, Order}
+use Rattle.sheet.specs.Order.{Pair, Order}
 use Rattle.sheet.specs.Sheet.{titleLine, markedKey, spaced, pairLine, pairLines, openLine, closeLine, sheetLines, join, sheet}
 use Rattle.sheet.specs.Spans.{PairIn, PairAt, pairOf, pairsAt, HasPairs}
 use Rattle.sheet.proofs.Laws.Pairs.{pairsAt-none, pairs-step}

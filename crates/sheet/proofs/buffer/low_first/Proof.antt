@@ -1,6 +1,6 @@
 -- `sheet::buffer::low_first` meets its contract.
 -- The invariant: n is the number in the bytes from place i on. The measure is i.
-use mathlib.Core.Path.{_≡_, sym, ap, _∙_}
+use mathlib.Core.Path.{_≡_}
 use Prim.Native.Nat.{_+_, _-_, _≤_, _<_}
 use native.Mathlib.Omega.{arith}
 use Rattle.text.specs.Parts.{part}

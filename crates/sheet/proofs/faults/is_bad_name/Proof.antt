@@ -1,6 +1,5 @@
 -- `sheet::faults::is_bad_name` meets its contract.
 use mathlib.Core.Path.{sym, _∙_}
-use lib.Seq.{take-length}
 use borrow.Author.Needs.{needs}
 use Rattle.text.specs.Runs.{word}
 use Rattle.sheet.proofs.Laws.Faults.{badName-key, badName-end}

@@ -1,5 +1,5 @@
 -- `sheet::judge::judge` meets its contract: each refusal in turn.
-use mathlib.Core.Path.{_≡_, sym, _∙_}
+use mathlib.Core.Path.{sym, _∙_}
 use native.Mathlib.Omega.{arith}
 use borrow.Author.Needs.{needs}
 use Rattle.sheet.specs.declared.layout.Found.the-variants.{Order}

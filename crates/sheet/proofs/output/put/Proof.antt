@@ -1,6 +1,6 @@
 -- `sheet::output::put` meets its contract.
 -- The invariant: the first i bytes are laid. The measure is the bytes left.
-use mathlib.Core.Path.{_≡_, sym, ap, _∙_}
+use mathlib.Core.Path.{_≡_, ap, _∙_}
 use Prim.Native.Nat.{_-_, _≤_}
 use native.Mathlib.Omega.{arith}
 use lib.ListN.{length, take, length-set}
@@ -22,8 +22,11 @@ loop-holds c = (omega arith, omega arith, laid-none (c .args .out .now) (c .args
 loop-again : tie.Need-loop-again Inv-loop μ-loop
 loop-again c =
     let at-loop = c .before .before in
-    let a = at-loop .before .args in
-    (omega arith, simp length-set (at-loop .loop .inv .1), rw (at-loop .loop .inv .2) (laid-turn _ _ _ (at-loop .loop .i) (c .before .loop-test .taken) (at-loop .before .pre)))
+    let l = at-loop .loop in (
+      omega arith,
+      simp length-set (l .inv .1),
+      rw (l .inv .2) (laid-turn _ _ _ (l .i) (c .before .loop-test .taken) (at-loop .before .pre)),
+    )
 
 returns : tie.Need-returns Inv-loop μ-loop
 returns c =

@@ -5,7 +5,6 @@ use native.Mathlib.Omega.{arith}
 use lib.ListN.{length}
 use borrow.Author.Needs.{needs}
 use Rattle.text.specs.Runs.{word}
-use Rattle.text.specs.Parts.{part}
 use Rattle.text.proofs.Laws.Parts.{part-slice}
 use Rattle.sheet.specs.Sheet.{markedKey, spaced, pairLine}
 use Rattle.sheet.specs.Output.{Puts}

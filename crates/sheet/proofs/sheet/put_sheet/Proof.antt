@@ -11,7 +11,7 @@ use Rattle.sheet.specs.Sheet.{titleLine, pairLines, openLine, closeLine,
 use Rattle.sheet.specs.Output.{Puts}
 use Rattle.sheet.specs.Spans.{orderAt}
 use Rattle.sheet.proofs.Laws.Output.{puts-append}
-use Rattle.sheet.proofs.Laws.Sizes.{titleLine-length, openLine-length, closeLine-length, sheet-is, sheet-length}
+use Rattle.sheet.proofs.Laws.Sizes.{titleLine-length, openLine-length, sheet-is, sheet-length}
 use Rattle.sheet.proofs.sheet.put_sheet.Statement.{statement}
 use Rattle.sheet.proofs.sheet.put_sheet.Tie as tie
 

@@ -1,6 +1,6 @@
 -- `sheet::size::pairs_size` meets its contract.
 -- The invariant: what is counted and the lines of the pairs left are all the lines. The measure is the pairs left.
-use mathlib.Core.Path.{_≡_, refl, sym, ap, _∙_}
+use mathlib.Core.Path.{_≡_, ap}
 use Prim.Native.Nat.{_+_, _-_, _*_, _≤_}
 use native.Mathlib.Omega.{arith}
 use native.Mathlib.Nat.{zero-add}

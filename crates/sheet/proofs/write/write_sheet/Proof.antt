@@ -1,5 +1,5 @@
 -- `sheet::write::write_sheet` meets its contract; what is promised of the sheet is that of every good order's.
-use mathlib.Core.Path.{_≡_, refl, sym, ap, _∙_}
+use mathlib.Core.Path.{refl}
 use native.Mathlib.Omega.{arith}
 use borrow.Author.Needs.{needs}
 use Rattle.sheet.specs.declared.judge.Verdict.the-variants.{Good}
