@@ -6,7 +6,7 @@ use native.Mathlib.Omega.{arith}
 use native.Mathlib.Nat.{zero-add}
 use native.Mathlib.Numerals.{add-one}
 use lib.ListN.{length, take, drop, set, getD, length-append}
-use lib.Seq.{length-take-le, take-length, take-at, drop-at, drop-drop, paste, paste-zero, paste-suc, length-paste}
+use lib.Seq.{length-take-le, take-at, drop-at, drop-drop, paste, paste-zero, paste-suc}
 use Rattle.sheet.specs.Output.{laid, Puts}
 
 laid-is : (d : List ℕ) (a : ℕ) (x : List ℕ) → laid d a x ≡ take a d ++ (x ++ drop (a + length x) d)
@@ -27,9 +27,6 @@ module _ (d : List ℕ) (a : ℕ) (x : List ℕ) where
       rw (laid-paste n (omega arith), add-one n, laid-paste (suc n) (omega arith)) (paste-suc d a x n 0 (omega arith) h)
 
   module _ (h : a + length x ≤ length d) where
-    pub laid-length : length (laid d a x) ≡ length d
-    laid-length = rw (ap (laid d a) (sym (take-length x)), laid-paste (length x) (omega arith)) (length-paste d a x (length x) h (omega arith))
-
     front-length : length (take a d ++ x) ≡ a + length x
     front-length = omega (arith, length-append (take a d) x, length-take-le a d (omega arith))
 
@@ -65,6 +62,3 @@ puts-append {d} {d′} {d″} {x} {y} {a} p q h = record {
   output = q .output ∙ rw (p .output, p .next) (laid-append d a x h y);
   next = omega (arith, p .next, q .next, length-append x y);
 }
-
-pub puts-length : {d d′ x : List ℕ} {a e : ℕ} → Puts d a x d′ e → a + length x ≤ length d → length d′ ≡ length d
-puts-length {d} {d′} {x} {a} p h = ap length (p .output) ∙ laid-length d a x h

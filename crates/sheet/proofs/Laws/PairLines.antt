@@ -25,7 +25,7 @@ use Rattle.sheet.proofs.Laws.SameKeys.{same-both}
 
 -- ---- the title's line
 
-pub titleLine-cons : (t : List ℕ) → titleLine t ≡ 42 ∷ 32 ∷ (t ++ (10 ∷ []))
+titleLine-cons : (t : List ℕ) → titleLine t ≡ 42 ∷ 32 ∷ (t ++ (10 ∷ []))
 unfolding titleLine word
 titleLine-cons t = refl
 
@@ -85,7 +85,7 @@ module _ (p : Pair) where
   abbrev pairBody : List ℕ
   pairBody = 58 ∷ (k ++ (58 ∷ spaced v))
 
-  pub pairLine-is : pairLine p ≡ pairBody ++ (10 ∷ [])
+  pairLine-is : pairLine p ≡ pairBody ++ (10 ∷ [])
   unfolding pairLine markedKey word
   pairLine-is = simp append-assoc
 

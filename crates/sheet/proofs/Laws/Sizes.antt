@@ -66,7 +66,7 @@ pub openLine-length : length openLine ≡ 13
 unfolding openLine word
 openLine-length = refl
 
-pub closeLine-length : length closeLine ≡ 6
+closeLine-length : length closeLine ≡ 6
 unfolding closeLine word
 closeLine-length = refl
 

@@ -31,7 +31,7 @@ module _ (y : List ℕ) where
   pairIn-yes k v h i = rw (h, i)
 
   -- where a pair stands its parts are not missing
-  pub pairIn-not : isSome (pairIn y) ≡ true → pairIn y ≡ none → ⊥
+  pairIn-not : isSome (pairIn y) ≡ true → pairIn y ≡ none → ⊥
   unfolding isSome
   pairIn-not h i = false≢true (rw i at h)
 
