@@ -1,4 +1,4 @@
--- Lookups, timestamps and planning lines in numbers, held to cases worked out by hand.
+-- Lookups, sheets, timestamps and planning lines in numbers, held to cases worked out by hand.
 use mathlib.Core.Path.{_≡_}
 use mathlib.Core.List.{List, [], _∷_, _++_}
 use Prim.Native.Nat.{ℕ}
@@ -10,9 +10,10 @@ use Rattle.dates.specs.Planning.{OpenPlanning}
 use Rattle.table.specs.Reading.{OpenReading}
 use Rattle.lookup.specs.Stages.{headingAt}
 use Rattle.lookup.specs.Planning.{bodyAfter, planning}
-use Rattle.comaltzex.specs.Numbers.{LooksUpAs, SourcesAs, stampAt, planAt}
+use Rattle.comaltzex.specs.Numbers.{LooksUpAs, SourcesAs, WritesAs, stampAt, planAt}
 use Rattle.comaltzex.specs.declared.value.Value.{Value}
 use Rattle.comaltzex.specs.declared.value.SourcedValue.{SourcedValue}
+use Rattle.comaltzex.specs.declared.Written.{Written}
 use Rattle.comaltzex.specs.declared.stamp.IntervalNumbers.{IntervalNumbers}
 use Rattle.comaltzex.specs.declared.stamp.MomentNumbers.{MomentNumbers}
 use Rattle.comaltzex.specs.declared.stamp.Stamp.{Stamp}
@@ -29,6 +30,11 @@ abbrev pub _with_key_answers_of_from_to_and_ : String → String → String → 
 w with d key k answers n of m from a to e and q =
     (r : SourcedValue) → SourcesAs (word w) 0 (word d) (word k) r
     → (r .number ≡ n) × (r .whose ≡ m) × (r .start ≡ a) × (r .end ≡ e) × (r .further ≡ q)
+
+-- whatever answers a sheet call with an order's buffer and an output has a number and a count, and leaves these bytes
+infix 100 _into_answers_count_leaves_
+abbrev pub _into_answers_count_leaves_ : List ℕ → String → ℕ → ℕ → String → Type 0
+x into t answers n count c leaves y = (r : Written) (t′ : List ℕ) → WritesAs x (word t) r t′ → (r .number ≡ n) × (r .count ≡ c) × (t′ ≡ word y)
 
 -- the numbers of a date in their order: the date, the time, the repeater, the delay, and whether the delay stands first
 unfoldable pub intervalList : IntervalNumbers → List ℕ
