@@ -3,8 +3,8 @@ pub mod Buffer
 pub mod Form
 pub mod Faults
 pub mod Sheet
-pub mod Output
-pub mod Spans
 pub mod Answers
 pub mod Table
 pub mod Promises
+pub mod Output
+pub mod Spans
