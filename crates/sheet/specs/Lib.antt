@@ -8,3 +8,4 @@ pub mod Table
 pub mod Promises
 pub mod Output
 pub mod Spans
+pub mod Pinned
