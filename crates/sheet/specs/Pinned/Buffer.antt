@@ -87,6 +87,7 @@ unfoldable pub fewCases : List Case
 fewCases =
     case "16 pairs" (found pairParts (fewPairsIn 16 (replicate 48 0))) (1 ∷ replicate 32 0)
     ∷ case "17 pairs" (found pairParts (fewPairsIn 17 (replicate 51 0))) missing
+    ∷ case "17 said, 16 there" (found pairParts (fewPairsIn 17 (replicate 48 0))) missing
     ∷ case "16 pairs, cut short" (found pairParts (fewPairsIn 16 (replicate 47 0))) missing
     ∷ case "no pairs" (found pairParts (fewPairsIn 0 [])) (there [])
     ∷ []

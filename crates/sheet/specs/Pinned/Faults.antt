@@ -5,13 +5,15 @@ use Prim.Native.String.{String}
 use Rattle.text.specs.Runs.{word}
 use Rattle.text.specs.Cases.{Case, case, _holds_fails_, below}
 use Rattle.sheet.specs.Order.{hasKey}
-use Rattle.sheet.specs.Faults.{isBreak, isBadText, hasBadText, isBadName, hasBadName, repeats, Judged, Refused, Good, judgedOrder, judged, OpenFaults}
+use Rattle.sheet.specs.Faults.{isBreak, startsBlank, endsBlank, isBadText, hasBadText, isBadName, hasBadName, repeats, Judged, Refused, Good, judgedOrder, judged, OpenFaults}
 use Rattle.sheet.specs.Pinned.Forms.{told, there, orderParts, pairsOf, orderOf, truths, OpenForms}
 
 -- the bytes that a text or a key may not have, at each place
 unfoldable pub byteCases : List Case
 byteCases =
     case "breaks" (below 256 isBreak []) (10 ∷ 13 ∷ [])
+    ∷ case "blank at the start" (below 256 (λ b. startsBlank (b ∷ word "aa")) []) (9 ∷ 13 ∷ 32 ∷ [])
+    ∷ case "blank at the end" (below 256 (λ b. endsBlank (97 ∷ 97 ∷ b ∷ [])) []) (9 ∷ 13 ∷ 32 ∷ [])
     ∷ case "a text" (below 256 (λ b. isBadText (b ∷ [])) []) (9 ∷ 10 ∷ 13 ∷ 32 ∷ [])
     ∷ case "at its start" (below 256 (λ b. isBadText (b ∷ word "aa")) []) (9 ∷ 10 ∷ 13 ∷ 32 ∷ [])
     ∷ case "inside it" (below 256 (λ b. isBadText (97 ∷ b ∷ word "a")) []) (10 ∷ 13 ∷ [])
@@ -78,6 +80,7 @@ turnCases =
     ∷ "T" with ("A" ∷ "" ∷ "B" ∷ "x y" ∷ []) is (0 ∷ 0 ∷ 0 ∷ []) refused 0
     -- 13: the title, the first value, the last; no key
     ∷ " T" with [] is (1 ∷ 0 ∷ 0 ∷ []) refused 13
+    ∷ "T " with [] is (1 ∷ 0 ∷ 0 ∷ []) refused 13
     ∷ "a\nb" with ("A" ∷ "x" ∷ []) is (1 ∷ 0 ∷ 0 ∷ []) refused 13
     ∷ "T" with ("A" ∷ "x\r" ∷ "B" ∷ "y" ∷ []) is (1 ∷ 0 ∷ 0 ∷ []) refused 13
     ∷ "T" with ("A" ∷ "x" ∷ "B" ∷ "y" ∷ "C" ∷ "\tz" ∷ []) is (1 ∷ 0 ∷ 0 ∷ []) refused 13
