@@ -1,5 +1,5 @@
 -- The table of a sheet, its reading, and lookups in it.
-use mathlib.Core.List.{List, [], _∷_, _++_}
+use mathlib.Core.List.{List, [], _∷_}
 use Prim.Native.Nat.{ℕ}
 use Prim.Native.String.{String}
 use Rattle.text.specs.Runs.{word}
