@@ -2,7 +2,7 @@
 use mathlib.Core.List.{List, [], _∷_, _++_}
 use Prim.Native.Nat.{ℕ}
 use Prim.Native.String.{String}
-use lib.ListN.{drop, replicate}
+use lib.ListN.{replicate}
 use Rattle.text.specs.Runs.{word}
 use Rattle.text.specs.Cases.{Case, case}
 use Rattle.sheet.specs.Faults.{Refused, Good}
@@ -27,17 +27,12 @@ putCases =
     ∷ outcomeCase "good" (outcomeFor (Good (orderOf "" [])) (word "abcdefghijklmnopqrstuvwxyz")) 0 22 (word "* \n:PROPERTIES:\n:END:\nwxyz")
     ∷ []
 
--- an outcome with the output's bytes from byte 65,535 on
-unfoldable pub lastBytes : Outcome → Outcome
-lastBytes r = record { number = r .number; count = r .count; output = drop 65535 (r .output) }
-
 -- 1: a sheet over 65,536 bytes, before 16
 unfoldable pub longCases : List Case
 unfolding outcomeCase
 longCases =
-    outcomeCase "1: sheet of 65,537 bytes, before 16" (writeSheet (235 ∷ 255 ∷ (replicate 65515 97 ++ (0 ∷ []))) []) 1 0 []
-    ∷ outcomeCase "65,536 bytes needed" (putOut (replicate 65536 97) (word "wx")) 16 65536 (word "wx")
-    ∷ outcomeCase "65,536 bytes written, one left" (lastBytes (putOut (replicate 65536 97) (replicate 65537 170))) 0 65536 (97 ∷ 170 ∷ [])
+    outcomeCase "65,537 bytes" (putOut (replicate 65537 97) []) 1 0 []
+    ∷ outcomeCase "65,536 bytes" (putOut (replicate 65536 97) []) 16 65536 []
     ∷ []
 
 -- a buffer, and a lent output of m bytes 170: the answer's number and count, and what stands in the output before k of those bytes
@@ -84,5 +79,5 @@ sheetSamples =
 
 -- opens these cases and what they are cases of
 unfoldable pub OpenAnswerCases : Type 1
-unfolding OpenForms OpenAnswers putCases lastBytes longCases _sends_into_answers_count_leaves_and_ sheetSamples
+unfolding OpenForms OpenAnswers putCases longCases _sends_into_answers_count_leaves_and_ sheetSamples
 OpenAnswerCases = Type 0
