@@ -45,7 +45,7 @@ unfoldable pub sized : ℕ → List ℕ → Option Cut
 unfolding cut lowFirst
 sized n x = andThen (cut n x) (λ c. cut (lowFirst (c .bytes)) (c .rest))
 
--- Per pair key length (one byte), key, value length (as the title's), value.
+-- a pair from a buffer's front, and what is left of it
 pub record PairCut : Type 0 where
   pub first : Pair
   pub rest : List ℕ
@@ -53,6 +53,7 @@ pub record PairCut : Type 0 where
 abbrev pub pairCut : List ℕ → List ℕ → List ℕ → PairCut
 pairCut k v x = record { first = pair k v; rest = x }
 
+-- Per pair key length (one byte), key, value length (as the title's), value.
 unfoldable pub pairIn : List ℕ → Option PairCut
 unfolding sized
 pairIn x = andThen (sized keyWidth x) (λ k. andThen (sized textWidth (k .rest)) (λ v. some (pairCut (k .bytes) (v .bytes) (v .rest))))

@@ -36,8 +36,10 @@ use Rattle.sheet.specs.Table.{pairRecord, pairRecords, sheetTable}
 use Rattle.sheet.proofs.Laws.Judged.{GoodPair, GoodOrder}
 use Rattle.sheet.proofs.Laws.Lines.{size-append, lineIn-head, linesIn-tail}
 use Rattle.sheet.proofs.Laws.PairLines.{titleLine-stars, spaced-length, pairLine-blank, pairLine-some, pairLine-bodyEnd, pairLine-valueStart}
-use Rattle.sheet.proofs.Laws.Sheets.{openLine-blank, openLine-planning, pairLines-length, titleEnd, openEnd, closeStart, drawerLines, sheet-size, closeStart-is}
-use Rattle.sheet.proofs.Laws.Sheets.{sheet-titleLine, sheet-drawerLines, sheet-pairLines, sheet-headingLine, sheet-nextHeading, sheet-place, sheet-drawer, sheet-some, sheet-openNumber, sheet-firstNumber}
+use Rattle.sheet.proofs.Laws.Sheets.{openLine-blank, openLine-planning, pairLines-length, titleEnd, openEnd}
+use Rattle.sheet.proofs.Laws.Sheets.{closeStart, drawerLines, sheet-size, closeStart-is}
+use Rattle.sheet.proofs.Laws.Sheets.{sheet-titleLine, sheet-drawerLines, sheet-pairLines, sheet-headingLine, sheet-nextHeading}
+use Rattle.sheet.proofs.Laws.Sheets.{sheet-place, sheet-drawer, sheet-some, sheet-openNumber, sheet-firstNumber}
 
 -- ---- the node properties
 
