@@ -7,16 +7,18 @@
  * defaults; comaltzex_planning gives the dates of a heading's planning line;
  * comaltzex_timestamp reads one timestamp, and comaltzex_days_between counts the
  * days from one date to another; comaltzex_find_closer finds the line that closes
- * a block or drawer; comaltzex_write_sheet writes an order as Org text. All functions
- * are plain: they allocate nothing and keep no state, so threads may call them at
- * once (each with a table or an output of its own).
+ * a block or drawer; comaltzex_write_sheet writes an order as Org text;
+ * comaltzex_intake takes an order into a book unless its request is there already, and
+ * comaltzex_intake_log a whole log of orders. All functions are plain: they allocate
+ * nothing and keep no state, so threads may call them at once (each with a table, an
+ * output or a book of its own).
  *
  * Stack: a call needs up to 96 KB of stack.
  *
  * Pointers: each must point to as many elements as its length says, and none
  * may be NULL, not even with length 0. A table may not overlap the text, nor an
- * output the order; texts and keys may overlap. A text is bytes, not a C string: it
- * needs no byte 0 at its end.
+ * output the order, nor a book the order or log; texts and keys may overlap. A text is
+ * bytes, not a C string: it needs no byte 0 at its end.
  *
  * Places are byte offsets into the text; every end is one past the last byte.
  */
@@ -36,9 +38,9 @@ extern "C" {
  * added. If comaltzex_version() is another number, the library is not the one that
  * this header declares.
  */
-#define COMALTZEX_VERSION 8
+#define COMALTZEX_VERSION 9
 
-#define COMALTZEX_TEXT_LIMIT 65536 /* the longest text or sheet, in bytes */
+#define COMALTZEX_TEXT_LIMIT 65536 /* the longest text, sheet or book, in bytes */
 #define COMALTZEX_DEPTH_LIMIT 32   /* the deepest list, drawer or greater block */
 #define COMALTZEX_KEY_LIMIT 64     /* the longest key, in bytes */
 #define COMALTZEX_PAIR_LIMIT 16    /* the most pairs of an order */
@@ -47,7 +49,8 @@ extern "C" {
 /* The number of an answer. */
 enum comaltzex_number {
     COMALTZEX_OK = 0,
-    COMALTZEX_TOO_LONG = 1,      /* the text or sheet is over COMALTZEX_TEXT_LIMIT */
+    COMALTZEX_TOO_LONG = 1,      /* the text, the sheet or the new book is over
+                                    COMALTZEX_TEXT_LIMIT */
     COMALTZEX_TOO_DEEP = 2,      /* a list, drawer or greater block at depth 33 or
                                     more */
     COMALTZEX_NO_ROOM = 3,       /* more records than the table has room for */
@@ -67,7 +70,13 @@ enum comaltzex_number {
                                     byte at either end */
     COMALTZEX_BAD_NAME = 14,     /* a key of an order is bad, as for 7, or is `END` */
     COMALTZEX_REPEATED_KEY = 15, /* an order has a key twice */
-    COMALTZEX_SHORT_OUTPUT = 16  /* the sheet is longer than the output */
+    COMALTZEX_SHORT_OUTPUT = 16, /* the sheet is longer than the output, or the new book
+                                    than its buffer */
+    COMALTZEX_MISSING_KEY = 17,  /* `REQUEST` or `VIN` is missing in an order, or empty */
+    COMALTZEX_BAD_USED = 18,     /* the bytes in use are over the book's buffer, or over
+                                    COMALTZEX_TEXT_LIMIT */
+    COMALTZEX_SEEN = 19,         /* the order's request is in the book already */
+    COMALTZEX_CUT_LOG = 27       /* a log is cut short */
 };
 
 /* The numbers of a record, in order. */
@@ -242,6 +251,11 @@ typedef struct comaltzex_written {
     uint32_t number; /* 0, 1 or 12 to 16 */
     size_t count;    /* bytes */
 } comaltzex_written;
+
+typedef struct comaltzex_taken {
+    uint32_t number; /* 0, 1 or 12 to 19; of a log 0 or 27 */
+    size_t count;    /* bytes in use after the call */
+} comaltzex_taken;
 
 /*
  * Reads a text into a table of table_len numbers, with room for
@@ -459,6 +473,60 @@ comaltzex_days comaltzex_days_between(uint32_t year, uint32_t month, uint32_t da
 comaltzex_written comaltzex_write_sheet(const uint8_t *order, size_t order_len, uint8_t *out,
                                         size_t out_len);
 
+/*
+ * Takes an order into a book. The book is a buffer of book_len bytes, of which the first
+ * `used` are its text, the bytes in use. The order has the form that
+ * comaltzex_write_sheet takes. Its sheet is written after the bytes in use; where the
+ * text is not empty and does not end in byte 10, one byte 10 first. The order must
+ * have a `REQUEST`, by which a second click on the same order is known, and a `VIN`;
+ * the case of letters counts for nothing in these keys. The first of these that holds
+ * is the answer:
+ *
+ *   12, 13, 14, 15   as of comaltzex_write_sheet
+ *   17  the order has no `REQUEST` or no `VIN`, or one of them is empty
+ *   18  used is over book_len, or over 65,536
+ *   19  the request is seen: at some heading of the text comaltzex_lookup of `REQUEST`
+ *       gives the order's value, byte for byte
+ *   1   the new book, its byte 10 before the sheet included, is over 65,536 bytes
+ *   16  the new book is longer than the buffer
+ *   0   the new book is book[0] up to, not including, book[count]
+ *
+ * Every number but 0 leaves the whole buffer as it was, and count is `used`, as it was
+ * handed in. 0 changes no byte before `used`, and none from count on. A buffer may have
+ * any length: with one of 65,536 bytes or more 16 is not given.
+ *
+ * After any run of calls on one book, each handed the bytes in use that the last gave,
+ * with no other writer between:
+ *
+ *   - `REQUEST` looks up each value that was taken in at one heading only, and `VIN`
+ *     looked up there gives that order's;
+ *   - every heading that the book had before looks up every key as before.
+ *
+ * What is not looked up is not seen: where a lookup refuses a heading's drawer with 8,
+ * 9 or 10, or with 5, a request that stands there does not stop a second order with
+ * it. Nor does a second `REQUEST` line of one drawer, or one above the first heading.
+ * Letters count in a request's value: `r1` and `R1` are two.
+ */
+comaltzex_taken comaltzex_intake(uint8_t *book, size_t book_len, size_t used,
+                                 const uint8_t *order, size_t order_len);
+
+/*
+ * Takes the orders of a log into a book, from first to last. A log has each order after
+ * its length, four bytes, low byte first, with nothing between these and nothing after
+ * them; it may be empty. The first of these that holds is the answer:
+ *
+ *   27  the log is cut short: a length or the order after it has fewer bytes. No order is
+ *       taken in, the whole buffer is as it was, and count is `used`
+ *   0   each order was handed to comaltzex_intake in turn, with the bytes in use that
+ *       the one before gave; count is what the last gave, without orders `used`
+ *
+ * An order that comaltzex_intake refuses, with whatever number, is passed over, and the
+ * next is tried. So a log answers 0 though all its orders are refused. A log that is
+ * played again, on the book that it gave, changes no byte and gives the same count.
+ */
+comaltzex_taken comaltzex_intake_log(uint8_t *book, size_t book_len, size_t used,
+                                     const uint8_t *log, size_t log_len);
+
 /* The library's own COMALTZEX_RECORD_SIZE. */
 size_t comaltzex_record_size(void);
 
@@ -503,6 +571,14 @@ static inline const char *comaltzex_number_name(uint32_t number)
         return "repeated key";
     case COMALTZEX_SHORT_OUTPUT:
         return "short output";
+    case COMALTZEX_MISSING_KEY:
+        return "missing key";
+    case COMALTZEX_BAD_USED:
+        return "bad bytes in use";
+    case COMALTZEX_SEEN:
+        return "request seen";
+    case COMALTZEX_CUT_LOG:
+        return "cut log";
     default:
         return "unknown";
     }

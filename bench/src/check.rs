@@ -4,6 +4,7 @@
 use std::time::Duration;
 
 use crate::contest::{self, best, contest, Contender, Effort};
+use crate::intakes;
 use crate::lists;
 use crate::sheets;
 use crate::texts::{self, Text};
@@ -45,13 +46,15 @@ pub fn passes() -> bool {
         ratio_held(&prose, PROSE_LIMIT),
         ratio_held(&lists::book(BOOK_SIZE), LISTS_LIMIT),
     ];
-    held.extend(texts::hostile(HOSTILE_SIZE).iter().map(time_held));
-    held.extend(lists::hostile(HOSTILE_SIZE).iter().map(time_held));
+    held.extend(texts::hostile(HOSTILE_SIZE).iter().map(reading_held));
+    held.extend(lists::hostile(HOSTILE_SIZE).iter().map(reading_held));
+    held.extend(intakes::hostile(HOSTILE_SIZE).map(|book| intake_held(&book)));
     held.extend(each_held("read", contest::comaltzex, lists::growing));
     held.extend(calls_held());
     held.extend(each_held("look", contest::refused_lookup, texts::refused));
     held.extend(each_held("house", contest::house_default, texts::defaults));
     held.extend(each_held("write", contest::write_sheet, sheets::orders));
+    held.extend(each_held("intake", contest::intake, intakes::books));
     held.push(days_held());
     held.iter().all(|&held| held)
 }
@@ -145,14 +148,23 @@ fn ratio(contender: Contender, text: &Text) -> f64 {
     best(&taken) / best(&count)
 }
 
-/// Does a reading, or its refusal, take at most `HOSTILE_LIMIT`, in one of the tries?
-fn time_held(text: &Text) -> bool {
+/// Is a reading, or its refusal, in time?
+fn reading_held(text: &Text) -> bool {
     let mut table = contest::fitting_table(&text.bytes);
-    let mut read = || contest::any_reading(&text.bytes, &mut table);
-    let least = least(HOSTILE_LIMIT, || contest::time(&mut read).as_secs_f64());
+    time_held("", text, || contest::any_reading(&text.bytes, &mut table))
+}
+
+/// Is the search of an intake in time?
+fn intake_held(book: &Text) -> bool {
+    time_held("intake ", book, || contest::intake(&book.bytes, &mut []))
+}
+
+/// Does a call take at most `HOSTILE_LIMIT`, in one of the tries?
+fn time_held(name: &str, text: &Text, mut call: impl FnMut()) -> bool {
+    let least = least(HOSTILE_LIMIT, || contest::time(&mut call).as_secs_f64());
     let held = least <= HOSTILE_LIMIT;
     println!(
-        "{}: {}, {} bytes: {least:.3} s, limit {HOSTILE_LIMIT} s",
+        "{}: {}, {} bytes: {name}{least:.3} s, limit {HOSTILE_LIMIT} s",
         verdict(held),
         text.name,
         text.bytes.len()

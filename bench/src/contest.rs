@@ -5,9 +5,9 @@ use std::hint::black_box;
 use std::ops::Range;
 use std::time::{Duration, Instant};
 
-use comaltzex::{Date, LookupRefusal, Whose, TEXT_LIMIT};
+use comaltzex::{Book, Date, IntakeRefusal, LookupRefusal, Order, Whose, TEXT_LIMIT};
 
-use crate::count;
+use crate::{count, intakes};
 
 /// A function to be timed on a text, with a table that fits.
 pub type Contender = fn(&[u8], &mut [u32]);
@@ -68,6 +68,9 @@ pub fn planning(text: &[u8], _: &mut [u32]) {
 thread_local! {
     /// Room for every sheet, lent to each call: none is timed with making it.
     static OUTPUT: RefCell<Vec<u8>> = RefCell::new(vec![0; TEXT_LIMIT]);
+
+    /// An order, made once.
+    static ORDER: Order = intakes::order();
 }
 
 /// The sheet of the text, which is an order.
@@ -79,6 +82,23 @@ pub fn write_sheet(text: &[u8], _: &mut [u32]) {
 pub fn sheet_length(order: &[u8]) -> usize {
     let length = OUTPUT.with_borrow_mut(|output| comaltzex::write_sheet(order, output));
     length.expect("the text is an order")
+}
+
+/// The intake of an order into the text, which has not its request and no room: all of it is
+/// searched, and nothing written. The text is copied first, to be lent; that is timed, too, and is a
+/// small part of the count's time.
+pub fn intake(text: &[u8], _: &mut [u32]) {
+    black_box(unroomed(black_box(text)));
+}
+
+/// Why that order is not taken in.
+pub fn unroomed(text: &[u8]) -> IntakeRefusal {
+    OUTPUT.with_borrow_mut(|output| {
+        let lent = &mut output[..text.len()];
+        lent.copy_from_slice(text);
+        let answer = ORDER.with(|order| Book::new(lent, text.len()).intake(order));
+        answer.expect_err("the book has no room")
+    })
 }
 
 pub fn plain_reader(text: &[u8], table: &mut [u32]) {

@@ -1,7 +1,7 @@
 //! How long a reading takes beside a count of byte 10 over the same text and
 //! beside an independent plain reader; a search for a closer, a refused lookup, a
-//! house default, a timestamp, a planning line and the writing of a sheet beside the
-//! count; and a count of days.
+//! house default, a timestamp, a planning line, the writing of a sheet and the search of
+//! an intake beside the count; and a count of days.
 //!
 //!     bench            prints the table
 //!     bench --check    exits with 1 if a limit of `check` is passed
@@ -9,6 +9,7 @@
 mod check;
 mod contest;
 mod count;
+mod intakes;
 mod lists;
 mod report;
 mod sheets;

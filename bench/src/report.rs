@@ -2,9 +2,10 @@
 
 use std::time::Duration;
 
-use comaltzex::{Kind, Refusal, RECORD_SIZE};
+use comaltzex::{IntakeRefusal, Kind, Record, Refusal, RECORD_SIZE};
 
 use crate::contest::{self, contest, median, median_ratio, Contender, Effort};
+use crate::intakes;
 use crate::lists;
 use crate::sheets;
 use crate::texts::{self, Text};
@@ -35,6 +36,8 @@ round's own. The machine is noisy: only ratios within one run count.
   stamp   comaltzex_timestamp, on a text that is one timestamp
   plan    comaltzex_planning, on a heading and its planning line
   write   comaltzex_write_sheet, on an order; the sheet has so many bytes
+  intake  comaltzex_intake of an order into a book of so many headings that has
+          neither its request nor room: a search; the copy of the book is timed, too
   days    comaltzex_days_between, from 1 January to 31 December: nanoseconds a call
 ";
 
@@ -48,6 +51,7 @@ pub fn print() {
     print_stamps();
     print_plans();
     print_sheets();
+    print_intakes();
     print_days();
 }
 
@@ -149,6 +153,13 @@ fn print_sheets() {
     }
 }
 
+fn print_intakes() {
+    print_call_head("book", "headings", "intake");
+    for book in SIZES.into_iter().flat_map(intakes::books) {
+        print_call(&book, agreed_intake(&book), contest::intake);
+    }
+}
+
 fn print_days() {
     println!("\n{:<16}{:>9}", "calendar", "days");
     let samples = contest::contest_of_days(texts::YEARS, &EFFORT);
@@ -187,7 +198,7 @@ fn print_row(text: &Text) {
 /// The head of a table of one call on texts that grow by some amount.
 fn print_call_head(call: &str, amount: &str, column: &str) {
     println!(
-        "\n{call:<16}{:>7}{amount:>10}{column:>9}{:>8}{:>12}",
+        "\n{call:<16}{:>7}{amount:>10}{column:>9}{:>8}{:>13}",
         "bytes",
         "count",
         format!("{column}/count")
@@ -198,7 +209,7 @@ fn print_call(text: &Text, amount: usize, call: Contender) {
     let contenders = [call, contest::count_one_at_a_time];
     let [taken, count] = contest(&text.bytes, &mut [], contenders, &EFFORT);
     println!(
-        "{:<16}{:>7}{:>10}{:>9.2}{:>8.2}{:>12.2}",
+        "{:<16}{:>7}{:>10}{:>9.2}{:>8.2}{:>13.2}",
         text.name,
         text.bytes.len(),
         amount,
@@ -245,11 +256,38 @@ fn agreed_default(text: &Text) -> usize {
     ours.start
 }
 
+/// How many headings a book has. By the plain reader's lookup none of them has the request that is
+/// searched for, and so the order must be refused for its length alone.
+fn agreed_intake(book: &Text) -> usize {
+    let ours = contest::unroomed(&book.bytes);
+    let headings = headings(book);
+    let seen = headings.iter().any(|heading| {
+        let theirs = plain_reader::lookup(&book.bytes, heading.span.start, b"REQUEST");
+        let (number, start, end, _) = theirs;
+        number == 0 && &book.bytes[start..end] == intakes::REQUEST
+    });
+    let unroomed = [IntakeRefusal::TooLong, IntakeRefusal::ShortBuffer].contains(&ours);
+    assert!(
+        unroomed && !seen,
+        "the book `{}` is not searched",
+        book.name
+    );
+    headings.len()
+}
+
 /// Where the first heading of the text's table starts.
 fn first_heading(text: &Text) -> usize {
+    let headings = headings(text);
+    headings.first().expect("the text has a heading").span.start
+}
+
+/// The headings of the text's table.
+fn headings(text: &Text) -> Vec<Record> {
     let table = comaltzex::Table::read(&text.bytes).expect("the text can be read");
-    let heading = table.records().find(|record| record.kind == Kind::Heading);
-    heading.expect("the text has a heading").span.start
+    let headings = table
+        .records()
+        .filter(|record| record.kind == Kind::Heading);
+    headings.collect()
 }
 
 /// How many lines a search compares that finds no closer; both readers must agree on it.

@@ -65,7 +65,13 @@ static void number_names(void)
     check_name(COMALTZEX_BAD_NAME, "bad name");
     check_name(COMALTZEX_REPEATED_KEY, "repeated key");
     check_name(COMALTZEX_SHORT_OUTPUT, "short output");
-    check_name(COMALTZEX_SHORT_OUTPUT + 1, "unknown");
+    check_name(COMALTZEX_MISSING_KEY, "missing key");
+    check_name(COMALTZEX_BAD_USED, "bad bytes in use");
+    check_name(COMALTZEX_SEEN, "request seen");
+    check_name(COMALTZEX_SEEN + 1, "unknown");
+    check_name(COMALTZEX_CUT_LOG - 1, "unknown");
+    check_name(COMALTZEX_CUT_LOG, "cut log");
+    check_name(COMALTZEX_CUT_LOG + 1, "unknown");
 }
 
 static void first_sample(void)

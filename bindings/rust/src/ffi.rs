@@ -3,7 +3,7 @@
 use crate::RECORD_SIZE;
 
 /// `COMALTZEX_VERSION` of the header.
-const VERSION: u32 = 8;
+const VERSION: u32 = 9;
 
 /// The numbers of an answer, as in `comaltzex.h`.
 pub(crate) mod number {
@@ -24,6 +24,10 @@ pub(crate) mod number {
     pub(crate) const BAD_NAME: u32 = 14;
     pub(crate) const REPEATED_KEY: u32 = 15;
     pub(crate) const SHORT_OUTPUT: u32 = 16;
+    pub(crate) const MISSING_KEY: u32 = 17;
+    pub(crate) const BAD_USED: u32 = 18;
+    pub(crate) const SEEN: u32 = 19;
+    pub(crate) const CUT_LOG: u32 = 27;
 }
 
 /// Whose an answer is, as in `comaltzex.h`.
@@ -145,6 +149,13 @@ pub(crate) struct Written {
     pub(crate) count: usize,
 }
 
+/// `comaltzex_taken` of the header.
+#[repr(C)]
+pub(crate) struct Taken {
+    pub(crate) number: u32,
+    pub(crate) count: usize,
+}
+
 extern "C" {
     fn comaltzex_read(
         text: *const u8,
@@ -192,6 +203,22 @@ extern "C" {
         out: *mut u8,
         out_len: usize,
     ) -> Written;
+
+    fn comaltzex_intake(
+        book: *mut u8,
+        book_len: usize,
+        used: usize,
+        order: *const u8,
+        order_len: usize,
+    ) -> Taken;
+
+    fn comaltzex_intake_log(
+        book: *mut u8,
+        book_len: usize,
+        used: usize,
+        log: *const u8,
+        log_len: usize,
+    ) -> Taken;
 
     fn comaltzex_record_size() -> usize;
 
@@ -275,6 +302,20 @@ pub(crate) fn write_sheet(order: &[u8], out: &mut [u8]) -> Written {
     unsafe { comaltzex_write_sheet(order.as_ptr(), order.len(), out.as_mut_ptr(), out.len()) }
 }
 
+pub(crate) fn intake(book: &mut [u8], used: usize, order: &[u8]) -> Taken {
+    assert_version();
+    let (book, length) = (book.as_mut_ptr(), book.len());
+    // SAFETY: as in `read`; the library writes only the book, and `used` may be any number.
+    unsafe { comaltzex_intake(book, length, used, order.as_ptr(), order.len()) }
+}
+
+pub(crate) fn intake_log(book: &mut [u8], used: usize, log: &[u8]) -> Taken {
+    assert_version();
+    let (book, length) = (book.as_mut_ptr(), book.len());
+    // SAFETY: as in `intake`.
+    unsafe { comaltzex_intake_log(book, length, used, log.as_ptr(), log.len()) }
+}
+
 fn record_size() -> usize {
     // SAFETY: the function takes nothing and touches no memory of the caller's.
     unsafe { comaltzex_record_size() }
@@ -308,6 +349,7 @@ mod tests {
         assert_eq!(size_of::<Plan>(), 376);
         assert_eq!(size_of::<Days>(), 8);
         assert_eq!(size_of::<Written>(), 16);
+        assert_eq!(size_of::<Taken>(), 16);
     }
 
     #[test]
@@ -327,5 +369,27 @@ mod tests {
             let written = write_sheet(order, &mut [0; 40]);
             assert_eq!((written.number, written.count), (number, 0));
         }
+    }
+
+    #[test]
+    fn a_refused_call_gives_the_bytes_in_use_as_they_were() {
+        let order = b"\x00\x00\x02\x07REQUEST\x02\x00r1\x03VIN\x01\x007";
+        let refused: [(u32, usize, &[u8]); 5] = [
+            (number::BAD_ORDER, 3, b""),
+            (number::MISSING_KEY, 3, b"\x00\x00\x00"),
+            (number::BAD_USED, 41, order),
+            (number::BAD_USED, usize::MAX, order),
+            (number::SHORT_OUTPUT, 3, order),
+        ];
+        for (number, used, order) in refused {
+            let taken = intake(&mut [0; 40], used, order);
+            assert_eq!((taken.number, taken.count), (number, used));
+        }
+        let mut book = [0; 100];
+        let used = intake(&mut book, 0, order).count;
+        let again = intake(&mut book, used, order);
+        assert_eq!((again.number, again.count), (number::SEEN, used));
+        let cut = intake_log(&mut [0; 40], 3, b"\x00");
+        assert_eq!((cut.number, cut.count), (number::CUT_LOG, 3));
     }
 }

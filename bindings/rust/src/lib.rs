@@ -38,10 +38,12 @@
 //! [`days_between`] counts the days from one date to another. [`find_closer`] finds
 //! the line that closes one block or drawer. [`Record::item`] tells an item's check box.
 //! [`Order`] and [`write_sheet`] write an order as Org text that reads back as what was
-//! written. A call needs up to 96 KB of stack.
+//! written. A [`Book`] takes orders in, each request once. A call needs up to 96 KB of
+//! stack.
 
 #![deny(unsafe_code, unsafe_op_in_unsafe_fn, missing_docs)]
 
+mod book;
 mod closer;
 mod dates;
 mod defaults;
@@ -60,6 +62,7 @@ mod sheet;
 mod table;
 mod timestamp;
 
+pub use book::{log_entry, Book};
 pub use closer::{find_closer, CloserSearch};
 pub use dates::{days_between, Date};
 pub use defaults::{lookup_with_defaults, property_or_default, Sourced, Whose};
@@ -68,13 +71,15 @@ pub use lookup::{lookup, property};
 pub use order::{Order, OrderError};
 pub use planning::{planning, Planning};
 pub use record::{Kind, Record, Records};
-pub use refusal::{DateRefusal, LookupRefusal, PlanningRefusal, Refusal, SheetRefusal};
+pub use refusal::{
+    DateRefusal, IntakeRefusal, LogRefusal, LookupRefusal, PlanningRefusal, Refusal, SheetRefusal,
+};
 pub use repeats::{Delay, Interval, Mark, Repeater, Repeats, Unit};
 pub use sheet::{sheet, write_sheet};
 pub use table::{read, Table};
 pub use timestamp::{timestamp, FoundTimestamp, Moment, Time, Timestamp};
 
-/// The longest text that is read, and the longest sheet, in bytes.
+/// The longest text that is read, the longest sheet and the longest book, in bytes.
 pub const TEXT_LIMIT: usize = 65_536;
 /// The greatest depth of lists, drawers and greater blocks that is read.
 pub const DEPTH_LIMIT: usize = 32;

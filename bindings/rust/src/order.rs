@@ -1,6 +1,7 @@
 use std::error::Error;
 use std::fmt::{self, Display, Formatter};
 
+use crate::book::log_entry;
 use crate::refusal::NAME_RULE;
 use crate::sheet::{bytes_needed, sheet, write_sheet};
 use crate::SheetRefusal;
@@ -87,6 +88,11 @@ impl Order {
     /// ```
     pub fn to_bytes(&self) -> &[u8] {
         &self.bytes
+    }
+
+    /// The order's entry in a log, as [`log_entry`](crate::log_entry()) makes it.
+    pub fn log_entry(&self) -> Vec<u8> {
+        log_entry(&self.bytes).expect("an order that has a sheet is short")
     }
 
     /// Writes the sheet into a lent output, as [`write_sheet`](crate::write_sheet())

@@ -5,6 +5,9 @@ use crate::ffi::number;
 
 const TOO_LONG: &str = "the text is longer than 65,536 bytes";
 const NO_HEADING: &str = "no heading starts at this byte";
+const BAD_ORDER: &str = "the order is cut short or too long, or has more than 16 pairs";
+const BAD_TEXT: &str = "the title or a value has a line end in it, or a blank at either end";
+const REPEATED_KEY: &str = "two keys are the same; capital and small letters count as one";
 /// What the key of an order is.
 pub(crate) const NAME_RULE: &str =
     "a key has 1 to 64 bytes, no blanks or line ends, no `+` at its end, and is not END";
@@ -225,16 +228,10 @@ impl SheetRefusal {
 impl Display for SheetRefusal {
     fn fmt(&self, f: &mut Formatter<'_>) -> fmt::Result {
         match self {
-            SheetRefusal::BadOrder => {
-                f.write_str("the order is cut short or too long, or has more than 16 pairs")
-            }
-            SheetRefusal::BadText => {
-                f.write_str("the title or a value has a line end in it, or a blank at either end")
-            }
+            SheetRefusal::BadOrder => f.write_str(BAD_ORDER),
+            SheetRefusal::BadText => f.write_str(BAD_TEXT),
             SheetRefusal::BadName => write!(f, "not every key is good: {NAME_RULE}"),
-            SheetRefusal::RepeatedKey => {
-                f.write_str("two keys are the same; capital and small letters count as one")
-            }
+            SheetRefusal::RepeatedKey => f.write_str(REPEATED_KEY),
             SheetRefusal::TooLong => f.write_str("the sheet would be longer than 65,536 bytes"),
             SheetRefusal::ShortOutput { needed } => {
                 write!(f, "the output has no room for a sheet of {needed} bytes")
@@ -244,3 +241,96 @@ impl Display for SheetRefusal {
 }
 
 impl Error for SheetRefusal {}
+
+/// Why an order was not taken into a book. The book is then as it was.
+#[derive(Clone, Copy, Debug, PartialEq, Eq, Hash)]
+#[non_exhaustive]
+pub enum IntakeRefusal {
+    /// As [`SheetRefusal::BadOrder`].
+    BadOrder,
+    /// As [`SheetRefusal::BadText`].
+    BadText,
+    /// As [`SheetRefusal::BadName`].
+    BadName,
+    /// As [`SheetRefusal::RepeatedKey`].
+    RepeatedKey,
+    /// The order has no `REQUEST` or no `VIN`, or one of them is empty.
+    MissingKey,
+    /// More bytes are in use than the book's buffer has, or than
+    /// [`TEXT_LIMIT`](crate::TEXT_LIMIT).
+    BadUsed,
+    /// A heading of the book has the order's `REQUEST` already: this is a second click.
+    Seen,
+    /// The new book would be longer than [`TEXT_LIMIT`](crate::TEXT_LIMIT).
+    TooLong,
+    /// The new book would be longer than its buffer.
+    ShortBuffer,
+}
+
+impl IntakeRefusal {
+    /// The number of this answer in the C interface.
+    pub fn number(self) -> u32 {
+        match self {
+            IntakeRefusal::BadOrder => number::BAD_ORDER,
+            IntakeRefusal::BadText => number::BAD_TEXT,
+            IntakeRefusal::BadName => number::BAD_NAME,
+            IntakeRefusal::RepeatedKey => number::REPEATED_KEY,
+            IntakeRefusal::MissingKey => number::MISSING_KEY,
+            IntakeRefusal::BadUsed => number::BAD_USED,
+            IntakeRefusal::Seen => number::SEEN,
+            IntakeRefusal::TooLong => number::TOO_LONG,
+            IntakeRefusal::ShortBuffer => number::SHORT_OUTPUT,
+        }
+    }
+}
+
+impl Display for IntakeRefusal {
+    fn fmt(&self, f: &mut Formatter<'_>) -> fmt::Result {
+        match self {
+            IntakeRefusal::BadOrder => f.write_str(BAD_ORDER),
+            IntakeRefusal::BadText => f.write_str(BAD_TEXT),
+            IntakeRefusal::BadName => write!(f, "not every key is good: {NAME_RULE}"),
+            IntakeRefusal::RepeatedKey => f.write_str(REPEATED_KEY),
+            IntakeRefusal::MissingKey => {
+                f.write_str("the order needs a REQUEST and a VIN, and neither may be empty")
+            }
+            IntakeRefusal::BadUsed => {
+                f.write_str("the book is longer than its buffer, or than 65,536 bytes")
+            }
+            IntakeRefusal::Seen => f.write_str("the book has an order with this REQUEST already"),
+            IntakeRefusal::TooLong => {
+                f.write_str("with this order the book would be longer than 65,536 bytes")
+            }
+            IntakeRefusal::ShortBuffer => f.write_str("the book has no room for this order"),
+        }
+    }
+}
+
+impl Error for IntakeRefusal {}
+
+/// Why no order of a log was taken into a book. The book is then as it was.
+#[derive(Clone, Copy, Debug, PartialEq, Eq, Hash)]
+#[non_exhaustive]
+pub enum LogRefusal {
+    /// The log ends in the middle of a length or of an order.
+    CutShort,
+}
+
+impl LogRefusal {
+    /// The number of this answer in the C interface.
+    pub fn number(self) -> u32 {
+        match self {
+            LogRefusal::CutShort => number::CUT_LOG,
+        }
+    }
+}
+
+impl Display for LogRefusal {
+    fn fmt(&self, f: &mut Formatter<'_>) -> fmt::Result {
+        f.write_str(match self {
+            LogRefusal::CutShort => "the log is cut short",
+        })
+    }
+}
+
+impl Error for LogRefusal {}

@@ -1,46 +1,21 @@
 //! Sheets (document 02, order 5), through the safe interface.
 
+mod sent;
+
 use comaltzex::{
     property, sheet, write_sheet, Kind, Order, OrderError, Record, SheetRefusal, Table, KEY_LIMIT,
     PAIR_LIMIT, TEXT_LIMIT,
 };
+use sent::{buffer, lines, Pair};
 
 const UNTOUCHED: u8 = 0xAA;
 
 /// What a sheet without pairs has beside its title.
 const BARE: usize = "* \n:PROPERTIES:\n:END:\n".len();
 
-type Pair<'b> = (&'b [u8], &'b [u8]);
-
 /// Pairs of texts.
 fn texts<'b, const N: usize>(pairs: [(&'b str, &'b str); N]) -> [Pair<'b>; N] {
     pairs.map(|(key, value)| (key.as_bytes(), value.as_bytes()))
-}
-
-/// The buffer of an order, byte by byte as the site sends it. A title or value has its length in
-/// two bytes, a key in one.
-fn buffer(title: &[u8], pairs: &[Pair]) -> Vec<u8> {
-    let mut bytes = vec![(title.len() % 256) as u8, (title.len() / 256) as u8];
-    bytes.extend(title);
-    bytes.push(pairs.len() as u8);
-    for (key, value) in pairs {
-        bytes.push(key.len() as u8);
-        bytes.extend(*key);
-        bytes.extend([(value.len() % 256) as u8, (value.len() / 256) as u8]);
-        bytes.extend(*value);
-    }
-    bytes
-}
-
-/// The sheet as the papers say.
-fn lines(title: &[u8], pairs: &[Pair]) -> Vec<u8> {
-    let mut lines = [b"* ", title, b"\n:PROPERTIES:\n"].concat();
-    for &(key, value) in pairs {
-        let space: &[u8] = if value.is_empty() { b"" } else { b" " };
-        lines.extend([&b":"[..], key, b":", space, value, b"\n"].concat());
-    }
-    lines.extend(b":END:\n");
-    lines
 }
 
 /// Checks a call with so much room: the answer, and every byte of the output and past it.

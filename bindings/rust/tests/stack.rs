@@ -3,8 +3,8 @@
 mod nested;
 
 use comaltzex::{
-    find_closer, lookup, lookup_with_defaults, planning, read, timestamp, Order, Refusal,
-    DEPTH_LIMIT, KEY_LIMIT, PAIR_LIMIT, RECORD_SIZE, TEXT_LIMIT,
+    find_closer, lookup, lookup_with_defaults, planning, read, timestamp, Book, IntakeRefusal,
+    Order, Refusal, DEPTH_LIMIT, KEY_LIMIT, PAIR_LIMIT, RECORD_SIZE, TEXT_LIMIT,
 };
 use nested::nested_lists;
 use std::thread;
@@ -181,4 +181,27 @@ fn long_sheet() {
     let mut output = vec![0; TEXT_LIMIT];
     let written = on_a_small_stack(move || order.write_sheet(&mut output));
     assert_eq!(written, Ok(22 + PAIR_LIMIT * (KEY_LIMIT + 4004)));
+}
+
+/// Books of many headings, none of which has the request, and a log of many orders.
+#[test]
+fn long_intakes() {
+    let mut order = Order::new(b"").unwrap();
+    order.add(b"REQUEST", b"r").unwrap();
+    order.add(b"VIN", b"7").unwrap();
+    let intake = |text: Vec<u8>, order: Order| {
+        on_a_small_stack(move || Book::from_text(text).intake(&order))
+    };
+    for lines in [
+        "* \n",
+        "* \n:properties:\n",
+        "* \n:properties:\n:request: q\n:end:\n",
+    ] {
+        let answer = intake(filled(lines), order.clone());
+        assert_eq!(answer, Err(IntakeRefusal::TooLong));
+    }
+    let book = Book::from_text(Vec::new());
+    let log = order.log_entry().repeat(2000);
+    let played = on_a_small_stack(move || { book }.replay(&log));
+    assert_eq!(played, Ok(order.sheet().len()));
 }

@@ -23,6 +23,9 @@ use Rattle.dates.specs.declared.stamp.Timestamp.{Timestamp}
 use Rattle.dates.specs.declared.planning.Planning.{Planning}
 use Rattle.lookup.specs.Planning as Planned
 use Rattle.sheet.specs.Promises as Sheet
+use Rattle.intake.specs.declared.call.Taken as IntakeAnswer
+use Rattle.intake.specs.Book.{bookOf}
+use Rattle.intake.specs.Promises as Intake
 use Rattle.sheet.specs.declared.write.Written as SheetAnswer
 use Rattle.comaltzex.specs.Stamps.{stampNumbers}
 use Rattle.comaltzex.specs.declared.DayCount.{DayCount}
@@ -33,10 +36,11 @@ use Rattle.comaltzex.specs.declared.value.Value.{Value}
 use Rattle.comaltzex.specs.declared.value.SourcedValue.{SourcedValue}
 use Rattle.comaltzex.specs.declared.ClosingLine.{ClosingLine}
 use Rattle.comaltzex.specs.declared.Written.{Written}
+use Rattle.comaltzex.specs.declared.Taken.{Taken}
 
 -- the version of the interface: another one whenever an answer, the record's width or a function's signature changes, or a function is added
 abbrev pub version : ℕ
-version = 8
+version = 9
 
 -- a closer in numbers: whether there is one, and its line's ends; all 0 where there is none
 abbrev pub foundNumber : Closer → ℕ
@@ -112,3 +116,17 @@ pub record WritesAs (x t : List ℕ) (r : Written) (t′ : List ℕ) : Type 0 wh
   pub settled : Sheet.Settled x t answer t′
   pub number : r .number ≡ answer .number
   pub count : r .count ≡ answer .count
+
+-- a call of the intake with book x, bytes in use u and order buffer y answers r and leaves x′  [02 order 6]
+pub record TakesAs (x : List ℕ) (u : ℕ) (y : List ℕ) (r : Taken) (x′ : List ℕ) : Type 0 where
+  pub answer : IntakeAnswer.Taken
+  pub settled : Intake.Settled (bookOf x u) y answer x′
+  pub number : r .number ≡ answer .number
+  pub count : r .count ≡ answer .used
+
+-- and one with log y
+pub record PlaysAs (x : List ℕ) (u : ℕ) (y : List ℕ) (r : Taken) (x′ : List ℕ) : Type 0 where
+  pub answer : IntakeAnswer.Taken
+  pub settled : Intake.LogSettled (bookOf x u) y answer x′
+  pub number : r .number ≡ answer .number
+  pub count : r .count ≡ answer .used

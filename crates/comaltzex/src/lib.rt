@@ -4,7 +4,8 @@ ghost use Rattle.text.specs.Number;
 ghost use Rattle.dates.specs.Stamps.{dateOf};
 ghost use Rattle.dates.specs.Planning.{noStamps};
 ghost use Rattle.table.specs.Records.{recordSize};
-ghost use Rattle.comaltzex.specs.Numbers.{ReadsAs, LooksUpAs, SourcesAs, SearchesAs, CountsAs, WritesAs, foundStamp, stampAt, plan, planAt, version};
+ghost use Rattle.comaltzex.specs.Numbers.{ReadsAs, LooksUpAs, SourcesAs, SearchesAs, CountsAs, WritesAs, TakesAs, PlaysAs};
+ghost use Rattle.comaltzex.specs.Numbers.{foundStamp, stampAt, plan, planAt, version};
 
 pub mod stamp;
 pub mod value;
@@ -21,6 +22,8 @@ use dates::planning::Planning;
 use dates::read::read_timestamp;
 use dates::stamp::Date;
 use dates::stamp::Timestamp;
+use intake::call::intake;
+use intake::log::intake_log;
 use lookup::defaults::lookup_with_defaults;
 use lookup::lookup::lookup;
 use lookup::planning::Answer as Planned;
@@ -34,7 +37,7 @@ use table::record;
 use text::number;
 
 // The version of this interface, as specs/Numbers has it.
-const VERSION: u32 = 8;
+const VERSION: u32 = 9;
 
 // Both ends of a line that was not found.
 const NOWHERE: usize = 0;
@@ -263,6 +266,37 @@ pub extern "C" fn comaltzex_write_sheet(order: &[u8], out: &mut [u8]) -> Written
     Written {
         number: written.number,
         count: written.count,
+    }
+}
+
+// The number of an intake call's answer, and the bytes in use after it.
+#[repr(C)]
+pub struct Taken {
+    pub number: u32,
+    pub count: usize,
+}
+
+// Takes an order into a book after its bytes in use.
+#[no_mangle]
+pub extern "C" fn comaltzex_intake(book: &mut [u8], used: usize, order: &[u8]) -> Taken
+    ensures { λ r. ⌜ TakesAs (now (book .entry)) used (now (order .entry)) r (now (book .exit)) ⌝ }
+{
+    let taken = intake(book, used, order);
+    Taken {
+        number: taken.number,
+        count: taken.used,
+    }
+}
+
+// Takes the orders of a log into a book in turn.
+#[no_mangle]
+pub extern "C" fn comaltzex_intake_log(book: &mut [u8], used: usize, log: &[u8]) -> Taken
+    ensures { λ r. ⌜ PlaysAs (now (book .entry)) used (now (log .entry)) r (now (book .exit)) ⌝ }
+{
+    let played = intake_log(book, used, log);
+    Taken {
+        number: played.number,
+        count: played.used,
     }
 }
 

@@ -6,3 +6,6 @@ pub mod Finding
 pub mod Lookup
 pub mod Defaults
 pub mod Planning
+pub mod Local
+pub mod Joined
+pub mod LineEnded

@@ -1,8 +1,9 @@
--- The cases of specs/Pinned and specs/PinnedDefaults are right, by computation.
+-- The cases of specs/Pinned, specs/PinnedDefaults and specs/PinnedJoined are right, by computation.
 use mathlib.Core.Path.{refl}
 use Rattle.text.specs.Cases.{Right}
 use Rattle.lookup.specs.Pinned.{lookupCases, reasonCases, outcomeCases, planningCases, OpenLookupCases}
 use Rattle.lookup.specs.PinnedDefaults.{reservedCases, headingCases, defaultsCases, partCases, OpenDefaultsCases}
+use Rattle.lookup.specs.PinnedJoined.{movedCases, headsCases, OpenJoinedCases}
 
 pub lookups-pinned : Right lookupCases
 unfolding OpenLookupCases
@@ -35,3 +36,11 @@ defaults-pinned = refl
 pub parts-pinned : Right partCases
 unfolding OpenDefaultsCases
 parts-pinned = refl
+
+pub moved-pinned : Right movedCases
+unfolding OpenJoinedCases
+moved-pinned = refl
+
+pub heads-pinned : Right headsCases
+unfolding OpenJoinedCases
+heads-pinned = refl

@@ -3,6 +3,8 @@ pub mod Stages
 pub mod Lookup
 pub mod Defaults
 pub mod Planning
+pub mod Joined
 pub mod Promises
 pub mod Pinned
 pub mod PinnedDefaults
+pub mod PinnedJoined

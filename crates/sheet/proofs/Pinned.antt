@@ -2,7 +2,7 @@
 use mathlib.Core.Path.{refl}
 use Rattle.text.specs.Cases.{Right}
 use Rattle.sheet.specs.Pinned.Buffer.{lowFirstCases, cutCases, pairCases, pairsCases, fewCases, orderCases, OpenBufferCases}
-use Rattle.sheet.specs.Pinned.Faults.{byteCases, textCases, nameCases, keyCases, turnCases, judgedCases, OpenFaultCases}
+use Rattle.sheet.specs.Pinned.Faults.{byteCases, textCases, nameCases, keyCases, valueCases, turnCases, judgedCases, OpenFaultCases}
 use Rattle.sheet.specs.Pinned.Sheet.{sheetCases, laidCases, _put_at_leaves_to_, OpenSheetCases}
 use Rattle.sheet.specs.Pinned.Answers.{putCases, longCases, sheetSamples, OpenAnswerCases}
 use Rattle.sheet.specs.Pinned.Table.{tableCases, lookupCases, OpenTableCases}
@@ -11,9 +11,9 @@ pub buffer-pinned : Right lowFirstCases × Right cutCases × Right pairCases × 
 unfolding OpenBufferCases
 buffer-pinned = (refl, refl, refl, refl, refl, refl)
 
-pub faults-pinned : Right byteCases × Right textCases × Right nameCases × Right keyCases × Right turnCases × Right judgedCases
+pub faults-pinned : Right byteCases × Right textCases × Right nameCases × Right keyCases × Right valueCases × Right turnCases × Right judgedCases
 unfolding OpenFaultCases
-faults-pinned = (refl, refl, refl, refl, refl, refl)
+faults-pinned = (refl, refl, refl, refl, refl, refl, refl)
 
 pub sheet-pinned : Right sheetCases × Right laidCases
 unfolding OpenSheetCases

@@ -1,6 +1,7 @@
 -- An order: a title, and pairs of a key and a value  [02 order 5].
-use mathlib.Core.Bool.{Bool, false, _||_}
+use mathlib.Core.Bool.{Bool, true, false, _||_}
 use mathlib.Core.List.{List, [], _∷_}
+use mathlib.Core.Option.{Option, none, some}
 use Prim.Native.Nat.{ℕ}
 use Rattle.text.specs.Runs.{same, OpenRuns}
 
@@ -25,7 +26,12 @@ unfoldable pub hasKey : List ℕ → List Pair → Bool
 unfolding somePair
 hasKey k ps = somePair (λ p. same (p .key) k) ps
 
+-- the value of the first pair with that key
+unfoldable pub valueFor : List ℕ → List Pair → Option (List ℕ)
+valueFor k [] = none
+valueFor k (p ∷ ps) = elim (same (p .key) k) [ true ↦ some (p .value) | false ↦ valueFor k ps ]
+
 -- opens the definitions of this file and of those it stands on, for computed examples
 unfoldable pub OpenOrder : Type 1
-unfolding OpenRuns somePair hasKey
+unfolding OpenRuns somePair hasKey valueFor
 OpenOrder = Type 0

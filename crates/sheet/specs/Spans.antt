@@ -2,7 +2,7 @@
 use mathlib.Core.Path.{_≡_}
 use mathlib.Core.Bool.{Bool, true}
 use mathlib.Core.List.{List, []}
-use mathlib.Core.Option.{Option·getD, none, some}
+use mathlib.Core.Option.{Option, Option·getD, none, some}
 use Prim.Native.Nat.{ℕ, zero, suc, _+_, _*_, _≤_, _<_}
 use lib.ListN.{length, drop}
 use Rattle.text.specs.Parts.{part}
@@ -65,6 +65,10 @@ pub record PairAt (x : List ℕ) (p : ℕ) (r : PairSpan) : Type 0 where
 abbrev pub longest : ℕ
 longest = 255 + 65535 + 4
 
+-- the longest sheet: its title's line, the lines around the pairs, and theirs
+abbrev pub longestSheet : ℕ
+longestSheet = 65535 + 3 + 19 + longest * pairLimit
+
 -- n pairs stand from byte p on, and the buffer ends with them; the pairs themselves
 unfoldable pub arePairs : List ℕ → ℕ → ℕ → Bool
 arePairs x p n = isSome (pairsIn n (drop p x))
@@ -74,6 +78,11 @@ pairsAt x p n = Option·getD (pairsIn n (drop p x)) []
 
 abbrev pub HasPairs : List ℕ → ℕ → ℕ → Type 0
 HasPairs x p n = arePairs x p n ≡ true
+
+-- the bytes that were sought, if there are any, stand at a part of buffer x
+abbrev pub ValueAt : List ℕ → Option (List ℕ) → Part → Type 0
+ValueAt x v Missing = v ≡ none
+ValueAt x v (At a e) = (a ≤ e) × (e ≤ length x) × (v ≡ some (part x a e))
 
 -- the order whose title ends at a byte, before the count byte
 abbrev pub orderAt : List ℕ → Layout → Order

@@ -6,7 +6,9 @@ ghost use Rattle.text.specs.Parts.{part};
 ghost use Rattle.sheet.specs.Order.{hasKey, somePair};
 ghost use Rattle.sheet.specs.Faults.{hasBreak, isBadText, isBadName, repeats};
 ghost use Rattle.sheet.specs.Spans.{HasPairs, pairsAt};
+use crate::buffer::Part;
 use crate::pairs::pair_at;
+use crate::search::find_value;
 use lookup::stages::is_bad_key;
 use text::bytes::Class;
 use text::bytes::is_of;
@@ -92,17 +94,10 @@ fn has_key(buffer: &[u8], from: usize, count: usize, key: &[u8]) -> bool
     requires { ⌜ HasPairs (now buffer) from count ⌝ }
     ensures { λ r. ⌜ r ≡ hasKey (now (key .entry)) (pairsAt (now (buffer .entry)) from count) ⌝ }
 {
-    let mut at = from;
-    let mut n = count;
-    while 0 < n {
-        let pair = pair_at(buffer, at);
-        if is_word(buffer, pair.from, pair.to, key) {
-            return true;
-        }
-        at = pair.end;
-        n -= 1;
-    }
-    false
+    let Part::At(_, _) = find_value(buffer, from, count, key) else {
+        return false;
+    };
+    true
 }
 
 // Whether one of so many keys comes again later, case ignored.

@@ -5,6 +5,7 @@ pub mod judge;
 pub mod layout;
 pub mod output;
 pub mod pairs;
+pub mod search;
 pub mod sheet;
 pub mod size;
 pub mod write;

@@ -4,7 +4,7 @@ ghost use Prim.Native.Nat.{_*_, _≤_};
 ghost use lib.ListN.{length};
 ghost use Rattle.sheet.specs.Buffer.{pairLimit};
 ghost use Rattle.sheet.specs.Sheet.{pairLine, pairLines, join, sheet};
-ghost use Rattle.sheet.specs.Spans.{HasPairs, pairsAt, orderAt, LaidOut, PairIn, pairOf, longest};
+ghost use Rattle.sheet.specs.Spans.{HasPairs, pairsAt, orderAt, LaidOut, PairIn, pairOf, longest, longestSheet};
 use crate::buffer::TEXT_WIDTH;
 use crate::layout::Layout;
 use crate::pairs::PairSpan;
@@ -50,7 +50,7 @@ fn pairs_size(buffer: &[u8], from: usize, count: usize) -> usize
 
 pub fn sheet_size(buffer: &[u8], layout: Layout) -> usize
     requires { ⌜ LaidOut (now buffer) layout ⌝ }
-    ensures { λ r. ⌜ r ≡ length (sheet (orderAt (now (buffer .entry)) layout)) ⌝ }
+    ensures { λ r. ⌜ (r ≡ length (sheet (orderAt (now (buffer .entry)) layout))) × (r ≤ longestSheet) ⌝ }
 {
     let title = layout.title;
     let line = title - TEXT_WIDTH + TITLE_MARKS;

@@ -1,4 +1,4 @@
--- The numbers of an answer  [01 "Numbers of an answer", 02 orders 1, 2 and 5].
+-- The numbers of an answer  [01 "Numbers of an answer", 02 orders 1, 2, 5 and 6].
 use Prim.Native.Nat.{ℕ}
 
 abbrev pub done : ℕ
@@ -51,3 +51,15 @@ repeatedKey = 15
 
 abbrev pub shortOutput : ℕ
 shortOutput = 16
+
+abbrev pub missingKey : ℕ
+missingKey = 17
+
+abbrev pub badUsed : ℕ
+badUsed = 18
+
+abbrev pub seen : ℕ
+seen = 19
+
+abbrev pub cutLog : ℕ
+cutLog = 27

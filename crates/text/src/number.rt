@@ -32,3 +32,11 @@ pub const BAD_NAME: u32 = 14;
 pub const REPEATED_KEY: u32 = 15;
 
 pub const SHORT_OUTPUT: u32 = 16;
+
+pub const MISSING_KEY: u32 = 17;
+
+pub const BAD_USED: u32 = 18;
+
+pub const SEEN: u32 = 19;
+
+pub const CUT_LOG: u32 = 27;

@@ -5,6 +5,7 @@ use std::path::Path;
 
 use plain_reader::{Date, NO_STAMP, NUMBERS_OF_A_RECORD};
 
+use crate::case_book::CaseBook;
 use crate::case_order::CaseOrder;
 use crate::escape::unescape;
 use crate::subject::{
@@ -22,13 +23,14 @@ const WITHOUT_LINE_NUMBER: usize = NUMBERS_OF_A_RECORD - 1;
 /// The place of a record's start among its numbers.
 const START: usize = 1;
 
-/// A text, perhaps a defaults text beside it or an order whose sheet it is, and what is expected of
-/// them.
+/// A text, perhaps a defaults text beside it, an order whose sheet it is or calls on it as a book, and
+/// what is expected of them.
 pub struct Case {
     pub name: String,
     pub text: Vec<u8>,
     pub defaults: Option<Vec<u8>>,
     pub order: CaseOrder,
+    pub book: CaseBook,
     pub expectations: Vec<Expectation>,
 }
 
@@ -39,13 +41,20 @@ impl Case {
             text: Vec::new(),
             defaults: None,
             order: CaseOrder::default(),
+            book: CaseBook::default(),
             expectations: Vec::new(),
         }
     }
 
     /// The text that a line about a text adds to.
     fn open_text(&mut self) -> &mut Vec<u8> {
-        self.defaults.as_mut().unwrap_or(&mut self.text)
+        let other = self.defaults.as_mut().or(self.book.after.as_mut());
+        other.unwrap_or(&mut self.text)
+    }
+
+    /// How many expectations the case has, each call on a book counted.
+    pub fn expected(&self) -> usize {
+        self.expectations.len() + self.book.expectations()
     }
 }
 
@@ -144,13 +153,16 @@ pub fn cases_of(path: &Path) -> Result<Vec<Case>, String> {
     cases.iter().try_for_each(meaning).map(|()| cases)
 }
 
-/// Refuses a case that expects nothing, of its text, of its defaults text or of its order.
+/// Refuses a case that expects nothing, of its text, of its defaults text, of its order or of its
+/// book.
 fn check_meaning(case: &Case) -> Result<(), &'static str> {
     if expects_nothing(case) {
         return Err("nothing expected");
     }
+    case.book.check_meaning(&case.text)?;
     let is_defaulted = |expected: &Expectation| matches!(expected, Expectation::Defaulted { .. });
     match (&case.defaults, case.expectations.iter().any(is_defaulted)) {
+        (Some(_), _) if case.book.after.is_some() => Err("defaults, and a book after calls"),
         (Some(_), false) => Err("defaults, and nothing expected of them"),
         (None, true) => Err("defaulted, and no defaults"),
         _ => check_order(case),
@@ -187,7 +199,7 @@ fn sheet_number(expected: &Expectation) -> Option<u32> {
 /// The case has no expectation, or a table without records.
 fn expects_nothing(case: &Case) -> bool {
     let is_empty = |expected: &Expectation| matches!(expected, Expectation::Table(records) if records.is_empty());
-    case.expectations.is_empty() || case.expectations.iter().any(is_empty)
+    case.expected() == 0 || case.expectations.iter().any(is_empty)
 }
 
 fn parse_line(line: &str, directory: &Path, cases: &mut Vec<Case>) -> Result<(), String> {
@@ -210,19 +222,24 @@ fn parse_line(line: &str, directory: &Path, cases: &mut Vec<Case>) -> Result<(),
     let (word, rest) = line.split_once(' ').unwrap_or((line, ""));
     if word == "defaults" {
         alone(word, rest)?;
-        return open_defaults(case);
+        return open(&mut case.defaults, word);
     }
-    if add_text(word, rest, directory, case.open_text())? || case.order.add(word, rest)? {
+    if word == "after" {
+        alone(word, rest)?;
+        return open(&mut case.book.after, word);
+    }
+    let is_text = add_text(word, rest, directory, case.open_text())?;
+    if is_text || case.order.add(word, rest)? || case.book.add(word, rest)? {
         return Ok(());
     }
     case.expectations.push(expectation(word, rest)?);
     Ok(())
 }
 
-/// From here on lines about a text are about the defaults text.
-fn open_defaults(case: &mut Case) -> Result<(), String> {
-    match case.defaults.replace(Vec::new()) {
-        Some(_) => Err("defaults twice".to_string()),
+/// From here on lines about a text are about this one.
+fn open(text: &mut Option<Vec<u8>>, word: &str) -> Result<(), String> {
+    match text.replace(Vec::new()) {
+        Some(_) => Err(format!("{word} twice")),
         None => Ok(()),
     }
 }
@@ -319,8 +336,13 @@ fn expectation(word: &str, rest: &str) -> Result<Expectation, String> {
 /// A number, and after the arrow an answer of a number and a count.
 fn counted(rest: &str, form: &str) -> Result<(usize, (u32, usize)), String> {
     let (room, answer) = rest.split_once(" -> ").ok_or(form)?;
+    Ok((number(room)?, answer_of(answer)?))
+}
+
+/// A number and a count.
+pub fn answer_of(answer: &str) -> Result<(u32, usize), String> {
     let [given, count] = words(answer)?;
-    Ok((number(room)?, (number(given)?, number(count)?)))
+    Ok((number(given)?, number(count)?))
 }
 
 fn closer_expectation(rest: &str) -> Result<Expectation, String> {
@@ -636,6 +658,21 @@ mod tests {
         ] {
             assert!(case(lines).is_err(), "{lines:?}");
         }
+    }
+
+    #[test]
+    fn text_lines_after_after_are_the_book_after_the_calls() {
+        let intake = r#"intake "T" "REQUEST" "r" "VIN" "7" -> 0 45"#;
+        let lines = [">x", "room 50", intake, "after", ">y", "repeat 2 z"];
+        let with_calls = case(&lines).unwrap_or_else(|told| panic!("{told}"));
+        assert_eq!(with_calls.text, b"x\n");
+        assert_eq!(with_calls.book.after.as_deref(), Some(b"y\nzz".as_slice()));
+        assert_eq!(with_calls.expected(), 1);
+        assert!(case(&lines[..3]).is_err());
+        assert!(case(&["room 50", "count 1"]).is_err());
+        assert!(case(&["after", "count 1"]).is_err());
+        assert!(case(&["room 50", intake, "after", "after"]).is_err());
+        assert!(case(&["room 50", intake, "after", "defaults"]).is_err());
     }
 
     #[test]

@@ -6,6 +6,7 @@ use crate::dates::{check_dates, DateTally};
 use crate::defaults::check_defaults;
 use crate::drawers::{self, check_drawers, Lookup};
 use crate::escape::escape;
+use crate::intakes;
 use crate::lists::{self, count_lists};
 use crate::proper::check_proper;
 use crate::random::Random;
@@ -26,7 +27,7 @@ pub const NODE_PROPERTY: u32 = 6;
 
 /// How many answers of each number and records of each kind the plain reader gave, and how many of
 /// its lookups, with house defaults too, its lists, its searches for closers, its answers about
-/// dates and its sheets met what.
+/// dates, its sheets and its intake calls met what.
 pub struct Tally {
     pub readings: [usize; 4],
     pub lookups: [usize; 11],
@@ -37,6 +38,7 @@ pub struct Tally {
     pub searches: searches::Met,
     pub dates: DateTally,
     pub sheets: sheet_situations::Met,
+    pub intakes: intakes::Met,
 }
 
 impl Default for Tally {
@@ -51,6 +53,7 @@ impl Default for Tally {
             searches: Default::default(),
             dates: Default::default(),
             sheets: [0; sheet_situations::SITUATIONS.len()],
+            intakes: Default::default(),
         }
     }
 }

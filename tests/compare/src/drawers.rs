@@ -3,7 +3,7 @@
 
 use plain_reader::Record;
 
-use crate::check::SMALL;
+use crate::check::{star_places, SMALL};
 use crate::subject::{LookupAnswer, LIBRARY};
 
 /// The kind of a heading.
@@ -128,6 +128,11 @@ impl<'t> Lookup<'t> {
 fn lines_from(text: &[u8], at: usize) -> impl Iterator<Item = &[u8]> {
     let rest = text.get(at..).unwrap_or_default();
     rest.split_inclusive(|byte| *byte == 10)
+}
+
+/// Where the heading lines of a text start.
+pub fn headings(text: &[u8]) -> impl Iterator<Item = usize> + '_ {
+    star_places(text).filter(|at| is_heading(&text[*at..]))
 }
 
 /// The line begins with stars and byte 32.

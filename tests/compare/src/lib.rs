@@ -1,7 +1,9 @@
 //! Tests of the library from outside: by hand-written cases, and by comparison with the plain
 //! reader on seeded texts and orders.
 
+pub mod calls;
 pub mod case;
+pub mod case_book;
 pub mod case_order;
 pub mod check;
 pub mod dates;
@@ -9,8 +11,13 @@ pub mod defaults;
 pub mod drawers;
 pub mod escape;
 pub mod house;
+pub mod intake_runs;
+pub mod intake_situations;
+pub mod intakes;
 pub mod library;
 pub mod lists;
+pub mod log_situations;
+pub mod logs;
 pub mod order;
 pub mod orders;
 pub mod output;
@@ -21,6 +28,7 @@ pub mod proper_lists;
 pub mod quoted;
 pub mod random;
 pub mod run;
+pub mod run_promise;
 pub mod searches;
 pub mod sheet_situations;
 pub mod sheets;

@@ -2,7 +2,7 @@
 
 use plain_reader::{Date, MomentNumbers, StampNumbers, NO_STAMP};
 
-/// The answer of a reading, and that of a sheet.
+/// The answer of a reading, that of a sheet, and that of an intake call or a log.
 #[repr(C)]
 struct CountAnswer {
     number: u32,
@@ -105,6 +105,22 @@ extern "C" {
         out: *mut u8,
         out_len: usize,
     ) -> CountAnswer;
+
+    fn comaltzex_intake(
+        book: *mut u8,
+        book_len: usize,
+        used: usize,
+        order: *const u8,
+        order_len: usize,
+    ) -> CountAnswer;
+
+    fn comaltzex_intake_log(
+        book: *mut u8,
+        book_len: usize,
+        used: usize,
+        log: *const u8,
+        log_len: usize,
+    ) -> CountAnswer;
 }
 
 /// Reads `text` into `table`; gives the answer's number and count.
@@ -205,6 +221,31 @@ pub fn write_sheet(buffer: &[u8], output: &mut [u8]) -> (u32, usize) {
             output.as_mut_ptr(),
             output.len(),
         )
+    };
+    (answer.number, answer.count)
+}
+
+/// Takes the order in `buffer` into the book, whose first `used` bytes are in use; gives the answer's
+/// number and the bytes in use after it.
+pub fn intake(book: &mut [u8], used: usize, buffer: &[u8]) -> (u32, usize) {
+    // SAFETY: both pointers come with the length of the slice they belong to.
+    let answer = unsafe {
+        comaltzex_intake(
+            book.as_mut_ptr(),
+            book.len(),
+            used,
+            buffer.as_ptr(),
+            buffer.len(),
+        )
+    };
+    (answer.number, answer.count)
+}
+
+/// The same for a log of orders.
+pub fn intake_log(book: &mut [u8], used: usize, log: &[u8]) -> (u32, usize) {
+    // SAFETY: both pointers come with the length of the slice they belong to.
+    let answer = unsafe {
+        comaltzex_intake_log(book.as_mut_ptr(), book.len(), used, log.as_ptr(), log.len())
     };
     (answer.number, answer.count)
 }

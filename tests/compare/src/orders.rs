@@ -88,7 +88,7 @@ fn faults(random: &mut Random) -> Vec<Fault> {
     faults
 }
 
-fn short_fault(random: &mut Random) -> Fault {
+pub fn short_fault(random: &mut Random) -> Fault {
     match random.below(20) {
         0 => Fault::Pairs,
         1..5 => Fault::Title,
@@ -98,7 +98,7 @@ fn short_fault(random: &mut Random) -> Fault {
     }
 }
 
-fn add_fault(fault: Fault, order: &mut Order, random: &mut Random) {
+pub fn add_fault(fault: Fault, order: &mut Order, random: &mut Random) {
     match fault {
         Fault::Title => order.title = random.pick(BAD_TEXTS).to_vec(),
         Fault::Value => spoil_value(order, random),
@@ -176,7 +176,11 @@ fn grow(order: &mut Order, length: usize, random: &mut Random) {
     text.splice(middle..middle, std::iter::repeat_n(b'x', lack));
 }
 
-fn damage_buffer(buffer: &mut Vec<u8>, parts: &[(Part, Vec<u8>)], random: &mut Random) -> Damage {
+pub fn damage_buffer(
+    buffer: &mut Vec<u8>,
+    parts: &[(Part, Vec<u8>)],
+    random: &mut Random,
+) -> Damage {
     match random.below(20) {
         0..7 => cut(buffer, parts, random),
         7..10 => {

@@ -25,7 +25,11 @@ pub fn differences(case: &Case, subject: &Subject) -> Vec<String> {
         table: OnceCell::new(),
     };
     let results = case.expectations.iter().map(|expected| run.check(expected));
-    results.filter_map(Result::err).collect()
+    let of_the_book = case.book.check(&case.text, subject);
+    results
+        .chain([of_the_book])
+        .filter_map(Result::err)
+        .collect()
 }
 
 struct Run<'c> {

@@ -1,7 +1,7 @@
 //! What a lookup with house defaults may meet (document 02, order 13).
 
-use crate::check::{property_name, star_places};
-use crate::drawers::is_heading;
+use crate::check::property_name;
+use crate::drawers::headings;
 use crate::subject::{DefaultedAnswer, PLAIN_READER};
 
 /// Has a call met something?
@@ -105,11 +105,6 @@ impl Call<'_> {
         let mut lines = self.defaults.split(|byte| *byte == 10);
         !self.key.is_empty() && lines.any(|line| property_name(line) == self.key)
     }
-}
-
-/// Where the heading lines of a text start.
-fn headings(text: &[u8]) -> impl Iterator<Item = usize> + '_ {
-    star_places(text).filter(|at| is_heading(&text[*at..]))
 }
 
 /// The heading at the front of the text has the key.

@@ -1,5 +1,5 @@
 //! What is tested: a reading call, a lookup, one with house defaults, a search for a closer, the
-//! calls about dates, and the writing of a sheet.
+//! calls about dates, the writing of a sheet, and the intake of an order or of a log of orders.
 
 use plain_reader::{Date, StampNumbers};
 
@@ -31,6 +31,9 @@ pub type DaysAnswer = (u32, i32);
 /// The answer of a sheet call: its number and its count.
 pub type SheetAnswer = (u32, usize);
 
+/// The answer of an intake call, and of a log: its number and the bytes in use after it.
+pub type IntakeAnswer = (u32, usize);
+
 #[derive(Clone, Copy)]
 pub struct Subject {
     pub name: &'static str,
@@ -42,6 +45,8 @@ pub struct Subject {
     pub planning: fn(&[u8], usize) -> PlanningAnswer,
     pub days_between: fn(Date, Date) -> DaysAnswer,
     pub write_sheet: fn(&[u8], &mut [u8]) -> SheetAnswer,
+    pub intake: fn(&mut [u8], usize, &[u8]) -> IntakeAnswer,
+    pub intake_log: fn(&mut [u8], usize, &[u8]) -> IntakeAnswer,
 }
 
 pub const PLAIN_READER: Subject = Subject {
@@ -54,6 +59,8 @@ pub const PLAIN_READER: Subject = Subject {
     planning: plain_reader::planning,
     days_between: plain_reader::days_between,
     write_sheet: plain_reader::write_sheet,
+    intake: plain_reader::intake,
+    intake_log: plain_reader::intake_log,
 };
 
 pub const LIBRARY: Subject = Subject {
@@ -66,6 +73,8 @@ pub const LIBRARY: Subject = Subject {
     planning: library::planning,
     days_between: library::days_between,
     write_sheet: library::write_sheet,
+    intake: library::intake,
+    intake_log: library::intake_log,
 };
 
 /// A table as it is before a call: no two neighbouring numbers are equal, and none is one that a

@@ -2,6 +2,16 @@
 
 const NAME_OF_64: &[u8] = &[b'k'; 64];
 const NAME_OF_65: &[u8] = &[b'k'; 65];
+const LONG_REQUEST: &[u8] = &long_request(b'a');
+const OTHER_LONG_REQUEST: &[u8] = &long_request(b'b');
+
+/// 258 bytes, a number that is 2 in its low byte; the first two are `r1`.
+const fn long_request(last: u8) -> [u8; 258] {
+    let mut request = [b'r'; 258];
+    request[1] = b'1';
+    request[257] = last;
+    request
+}
 
 /// Keys that the lookup takes; most are names in the seeded texts.
 #[rustfmt::skip]
@@ -37,6 +47,42 @@ pub const SHEET_TEXTS: &[&[u8]] = &[
 pub const BAD_TEXTS: &[&[u8]] = &[
     b" ", b"\t", b"\n", b"\r", b"a\nb", b"a\rb", b"a\n", b"\na", b"a\r", b"\ra", b" a", b"a ", b"\ta",
     b"a\t",
+];
+
+/// Requests of orders and of books written by hand: few, so that one comes often again.
+#[rustfmt::skip]
+pub const REQUESTS: &[&[u8]] = &[
+    b"r1", b"r1", b"r1", b"r2", b"r2", b"R1", b"r1 r2", b"7", b"7", b"7 8", b"9", b":", b":END:", b"\xFF", b"r\x001",
+    b"r\x002", LONG_REQUEST, OTHER_LONG_REQUEST,
+];
+
+/// VINs of orders.
+pub const VINS: &[&[u8]] = &[b"7", b"8", b"WVW", b"r1"];
+
+pub const REQUEST_KEYS: &[&[u8]] = &[b"REQUEST", b"REQUEST", b"REQUEST", b"request", b"rEQUESt"];
+pub const VIN_KEYS: &[&[u8]] = &[b"VIN", b"VIN", b"VIN", b"vin", b"Vin"];
+
+/// Other keys of orders that are taken in.
+pub const OTHER_KEYS: &[&[u8]] = &[b"a", b"REQUESTS", b"VI", b"Fuel", b":"];
+
+/// Heading lines of books written by hand.
+#[rustfmt::skip]
+pub const BOOK_HEADINGS: &[&[u8]] = &[
+    b"* Z\n", b"* Z\n", b"* \n", b"** Y\n", b"*** X\n", b"x\n* W\n", b"#+begin_src\n* V\n", b"*U\n", b" * T\n",
+];
+
+/// What such a book may have between a heading line and its drawer.
+#[rustfmt::skip]
+pub const BEFORE_DRAWERS: &[&[u8]] = &[
+    b"", b"", b"", b"", b"", b"", b"", b"", b"\n", b" \n", b"x\n", b"CLOSED: [2026-01-05]\n", b"CLOSED: [2026-01-05]\n",
+    b"CLOSED: [2026-01-05]\n\n", b"SCHEDULED: soon\n",
+];
+
+/// Fronts of the lines of such a drawer; a request follows.
+#[rustfmt::skip]
+pub const DRAWER_LINES: &[&[u8]] = &[
+    b":REQUEST: ", b":REQUEST: ", b":REQUEST: ", b":REQUEST: ", b":request:\t", b":Request:  ", b" :REQUEST: ",
+    b":REQUEST+: ", b":VIN: ", b":VIN: ", b":REQUESTS: ", b":a: ", b"REQUEST: ",
 ];
 
 /// Keys that are never taken from the defaults.

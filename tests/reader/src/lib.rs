@@ -16,15 +16,18 @@
 //! | order 3 | `closer` |
 //! | order 4 | `item`, `list`; rule 9a in `rules`, the records in `reading` |
 //! | order 5 | `order`, `sheet` |
+//! | order 6 | `intake`, `log` |
 //! | order 13 | `defaults` |
 
 mod answer;
 mod closer;
 mod days;
 mod defaults;
+mod intake;
 mod item;
 mod line;
 mod list;
+mod log;
 mod lookup;
 mod numbers;
 mod order;
@@ -38,7 +41,9 @@ pub use answer::answer;
 pub use closer::closer_search;
 pub use days::{days_between, Date};
 pub use defaults::lookup_with_defaults;
-pub use lookup::lookup;
+pub use intake::intake;
+pub use log::{intake_log, orders_of};
+pub use lookup::{lookup, lookup_at_each_heading};
 pub use numbers::{timestamp, MomentNumbers, StampNumbers, NO_MOMENT, NO_STAMP};
 pub use order::{Order, Pair};
 pub use planning::planning;

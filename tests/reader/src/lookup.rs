@@ -13,17 +13,42 @@ type Answer = (u32, usize, usize, usize);
 ///
 /// "Lookup tries 1 (empty part too), 7, 4, 5, 6", and "8, 10, 9, 5 replace 5 in its turn".
 pub fn lookup(text: &[u8], at: usize, key: &[u8]) -> Answer {
-    if text.len() > LONGEST_TEXT {
-        return refusal(1);
-    }
-    if is_bad_key(key) {
-        return refusal(7);
+    if let Some(number) = refused_anywhere(text, key) {
+        return refusal(number);
     }
     if !heading_line_starts(text, at) {
         return refusal(4);
     }
     let lines = lines_of(text);
-    let under = lines_under(&lines, at);
+    let heading = lines.iter().position(|line| line.span.start == at);
+    let after = heading.map_or(&[][..], |heading| &lines[heading + 1..]);
+    answer_under(after, key)
+}
+
+/// The lookup at each heading line in turn.
+pub fn lookup_at_each_heading(text: &[u8], key: &[u8]) -> Vec<Answer> {
+    let refused = refused_anywhere(text, key);
+    let lines = lines_of(text);
+    let headings = (0..lines.len()).filter(|index| lines[*index].is_heading());
+    headings
+        .map(|heading| match refused {
+            Some(number) => refusal(number),
+            None => answer_under(&lines[heading + 1..], key),
+        })
+        .collect()
+}
+
+/// 1 and 7, which no place in the text changes.
+fn refused_anywhere(text: &[u8], key: &[u8]) -> Option<u32> {
+    if text.len() > LONGEST_TEXT {
+        return Some(1);
+    }
+    is_bad_key(key).then_some(7)
+}
+
+/// The answer at a heading line, by the lines after it.
+fn answer_under(after: &[Line], key: &[u8]) -> Answer {
+    let under = lines_up_to_heading(after);
     match property_lines(lines_from_place(under)) {
         Err(refusal) => refusal,
         Ok(properties) => match value_of(properties, key) {
@@ -44,12 +69,10 @@ pub fn is_bad_key(key: &[u8]) -> bool {
     key.is_empty() || key.len() > LONGEST_KEY || key.iter().any(forbidden) || key.ends_with(b"+")
 }
 
-/// The lines after the heading line that starts at byte `at`, up to the next heading line.
-fn lines_under<'l, 't>(lines: &'l [Line<'t>], at: usize) -> &'l [Line<'t>] {
-    let heading = lines.iter().position(|line| line.span.start == at);
-    let under = heading.map_or(&[][..], |heading| &lines[heading + 1..]);
-    let next = under.iter().position(Line::is_heading);
-    &under[..next.unwrap_or(under.len())]
+/// The lines before the next heading line.
+fn lines_up_to_heading<'l, 't>(lines: &'l [Line<'t>]) -> &'l [Line<'t>] {
+    let next = lines.iter().position(Line::is_heading);
+    &lines[..next.unwrap_or(lines.len())]
 }
 
 /// "The place is the line after the heading line or its planning line."

@@ -1,5 +1,7 @@
 //! Document 02, order 5: "The site sends an order as one buffer".
 
+use crate::line::same_letters;
+
 /// "Pair count (one byte, at most 16)".
 const MOST_PAIRS: usize = 16;
 
@@ -27,6 +29,13 @@ impl<'b> Order<'b> {
         }
         let pairs = (0..count).map(|_| rest.pair()).collect::<Option<_>>()?;
         rest.0.is_empty().then_some(Order { title, pairs })
+    }
+
+    /// The value of the first pair with that key, case ignored.
+    pub fn value(&self, key: &[u8]) -> Option<&'b [u8]> {
+        let mut pairs = self.pairs.iter();
+        let pair = pairs.find(|pair| same_letters(pair.key, key));
+        pair.map(|pair| pair.value)
     }
 
     pub fn keys(&self) -> impl Iterator<Item = &'b [u8]> + '_ {

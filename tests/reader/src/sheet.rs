@@ -14,19 +14,10 @@ type Answer = (u32, usize);
 /// buffer before the next; on a refusal the lent output, else what is past the sheet, stays as it
 /// was."
 pub fn write_sheet(buffer: &[u8], output: &mut [u8]) -> Answer {
-    let Some(order) = Order::of(buffer) else {
-        return refusal(12);
+    let sheet = match order_for_a_sheet(buffer) {
+        Ok(order) => sheet_of(&order),
+        Err(number) => return refusal(number),
     };
-    if is_bad_text(order.title) || order.values().any(is_bad_text) {
-        return refusal(13);
-    }
-    if order.keys().any(is_no_key_of_a_sheet) {
-        return refusal(14);
-    }
-    if has_key_repeated(&order) {
-        return refusal(15);
-    }
-    let sheet = sheet_of(&order);
     if sheet.len() > LONGEST_TEXT {
         return refusal(1);
     }
@@ -35,6 +26,21 @@ pub fn write_sheet(buffer: &[u8], output: &mut [u8]) -> Answer {
     };
     place.copy_from_slice(&sheet);
     (0, sheet.len())
+}
+
+/// The order in `buffer`, or the number of its refusal "up to 15".
+pub fn order_for_a_sheet(buffer: &[u8]) -> Result<Order<'_>, u32> {
+    let order = Order::of(buffer).ok_or(12u32)?;
+    if is_bad_text(order.title) || order.values().any(is_bad_text) {
+        return Err(13);
+    }
+    if order.keys().any(is_no_key_of_a_sheet) {
+        return Err(14);
+    }
+    if has_key_repeated(&order) {
+        return Err(15);
+    }
+    Ok(order)
 }
 
 /// "The count returned is the sheet's length, for 16 the bytes needed, else 0."
@@ -66,7 +72,7 @@ fn has_key_repeated(order: &Order) -> bool {
 
 /// "Write one star, a space and the title; `:PROPERTIES:`; for each pair [..]; `:END:`; every line
 /// with byte 10 and no indentation."
-fn sheet_of(order: &Order) -> Vec<u8> {
+pub fn sheet_of(order: &Order) -> Vec<u8> {
     let mut sheet = [b"* ", order.title, b"\n:PROPERTIES:\n"].concat();
     for pair in &order.pairs {
         sheet.extend(property_line(pair));

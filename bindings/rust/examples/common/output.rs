@@ -11,6 +11,10 @@ pub fn print(text: &[u8]) -> io::Result<()> {
 
 /// Says on standard error what went wrong. Where that fails, the status must do.
 pub fn complain(program: &str, message: &[u8]) {
-    let line = [program.as_bytes(), b": ", message, b"\n"].concat();
-    let _ = io::stderr().write_all(&line);
+    warn(&[program.as_bytes(), b": ", message, b"\n"].concat());
+}
+
+/// Writes whole lines to standard error, if it takes them.
+pub fn warn(lines: &[u8]) {
+    let _ = io::stderr().write_all(lines);
 }

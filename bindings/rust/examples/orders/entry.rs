@@ -19,12 +19,6 @@ pub fn entries(records: &[Record]) -> impl Iterator<Item = Entry<'_>> {
 }
 
 impl Entry<'_> {
-    /// The heading's line after its stars, without blanks at either end.
-    pub fn title<'b>(&self, book: &'b [u8]) -> &'b [u8] {
-        let stars_end = self.heading.span.start + self.heading.detail as usize;
-        book[stars_end..self.heading.inner.start].trim_ascii()
-    }
-
     /// The line of the first record of its own that this holds of, else the heading's.
     pub fn line_of(&self, holds: impl Fn(&Record) -> bool) -> usize {
         let record = self.below.iter().find(|record| holds(record));
@@ -66,13 +60,10 @@ mod tests {
     }
 
     #[test]
-    fn titles_and_lines_of_headings() {
-        let book = b":PROPERTIES:\n:END:\n* One \r\ntext\n** \n*** Two\ttag";
-        let records = records(book);
-        let found: Vec<_> = entries(&records)
-            .map(|entry| (entry.heading.line, entry.title(book)))
-            .collect();
-        assert_eq!(found, [(2, &b"One"[..]), (4, b""), (5, b"Two\ttag")]);
+    fn lines_of_headings() {
+        let records = records(b":PROPERTIES:\n:END:\n* One \r\ntext\n** \n*** Two\ttag");
+        let lines: Vec<usize> = entries(&records).map(|entry| entry.heading.line).collect();
+        assert_eq!(lines, [2, 4, 5]);
     }
 
     #[test]

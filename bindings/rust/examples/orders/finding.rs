@@ -2,13 +2,11 @@
 
 use std::ops::Range;
 
-use comaltzex::{lookup, lookup_with_defaults, Kind, LookupRefusal, Sourced, Whose};
+use comaltzex::{lookup, lookup_with_defaults, Kind, LookupRefusal, Whose};
 
 use super::entry::{looks_like_a_drawer, starts_with_opener, Entry};
 use super::printable::printable;
-
-/// How much is shown of a line that is no property, in characters.
-const SHOWN: usize = 60;
+use super::words::words;
 
 const NO_DRAWER: &str = "no property drawer";
 const OPENER_ELSEWHERE: &str = "no property drawer: `:PROPERTIES:` must stand alone on the \
@@ -113,32 +111,12 @@ fn without_drawer(book: &[u8], entry: &Entry) -> Finding<'static> {
     }
 }
 
-/// The refusal of this text, and of a line that is no property what it says.
-fn words(text: &[u8], whose: Whose, answer: LookupRefusal) -> String {
-    let refusal = Sourced { whose, answer };
-    let LookupRefusal::NotProperty { start, .. } = answer else {
-        return refusal.to_string();
-    };
-    let line = text[start..].split(|&byte| byte == b'\n').next();
-    match line.unwrap_or_default().trim_ascii() {
-        b"" => format!("{refusal}: it is blank"),
-        line => format!("{refusal}: {}", shortened(&printable(line), SHOWN)),
-    }
-}
-
-/// At most so many characters of a text, and two dots where there were more.
-fn shortened(text: &str, limit: usize) -> String {
-    match text.char_indices().nth(limit) {
-        Some((end, _)) => format!("{}..", &text[..end]),
-        None => text.to_string(),
-    }
-}
-
 #[cfg(test)]
 mod tests {
     use comaltzex::{Record, Table};
 
     use super::super::entry::entries;
+    use super::super::words::SHOWN;
     use super::*;
 
     /// The finding at the last heading of a book.
@@ -323,12 +301,5 @@ mod tests {
             let wanted = at(3, &format!("no Fuel in its drawer{why}"));
             assert_eq!(fuel(LACKING, house.as_bytes()), wanted, "{house:?}");
         }
-    }
-
-    #[test]
-    fn long_texts_are_shortened() {
-        assert_eq!(shortened("äbc", 3), "äbc");
-        assert_eq!(shortened("äbcd", 3), "äbc..");
-        assert_eq!(shortened("", 3), "");
     }
 }

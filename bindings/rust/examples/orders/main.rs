@@ -13,6 +13,10 @@ mod printable;
 mod report;
 #[path = "../common/source.rs"]
 mod source;
+#[path = "../common/title.rs"]
+mod title;
+#[path = "../common/words.rs"]
+mod words;
 
 use std::env;
 use std::error::Error;

@@ -6,6 +6,7 @@ use super::arguments::Request;
 use super::entry::{entries, Entry};
 use super::finding::{find, Finding};
 use super::printable::printable;
+use super::title::title;
 
 #[derive(Debug, PartialEq)]
 pub struct Report {
@@ -46,7 +47,7 @@ fn text_of(
     finding: Finding,
     request: &Request,
 ) -> Option<(usize, String)> {
-    let title = title(book, entry);
+    let title = title(book, entry.heading.span.start);
     if !request.missing {
         let (line, what) = listed(entry, finding, &request.key);
         let deadline = deadline(book, entry);
@@ -67,13 +68,6 @@ fn listed(entry: &Entry, finding: Finding, key: &[u8]) -> (usize, String) {
         Finding::Value(value) => (entry.heading.line, what(value)),
         Finding::Default(value) => (entry.heading.line, what(value) + " (default)"),
         Finding::Missing(fault) | Finding::NoOrder(fault) => (fault.line, fault.why),
-    }
-}
-
-fn title(book: &[u8], entry: &Entry) -> String {
-    match entry.title(book) {
-        b"" => "(no title)".into(),
-        title => printable(title),
     }
 }
 

@@ -35,7 +35,7 @@ use Rattle.lookup.specs.Promises.{NoReason, outcomes, howMany, atMostOne
 -- ---- the lines before the closer
 
 -- rule 2's lines are all there are before the closer, and properties
-before-some : (ls : List Line) (n : ℕ) → propertiesBefore ls ≡ some n → (hasEnd ls ≡ true) × (hasOther (beforeEnd ls) ≡ false)
+pub before-some : (ls : List Line) (n : ℕ) → propertiesBefore ls ≡ some n → (hasEnd ls ≡ true) × (hasOther (beforeEnd ls) ≡ false)
 unfolding propertiesBefore hasEnd beforeEnd hasOther
 before-some [] n h = (cc, cc)
 before-some (l ∷ ls) n h = cases (isEndLine l)
@@ -47,7 +47,7 @@ before-some (l ∷ ls) n h = cases (isEndLine l)
     (λ i. let g = rw (e, i, propertiesBefore) at h in (cc, cc)))
 
 -- without them a closed drawer holds another line
-before-none : (ls : List Line) → propertiesBefore ls ≡ none → hasEnd ls ≡ true → hasOther (beforeEnd ls) ≡ true
+pub before-none : (ls : List Line) → propertiesBefore ls ≡ none → hasEnd ls ≡ true → hasOther (beforeEnd ls) ≡ true
 unfolding propertiesBefore hasEnd beforeEnd hasOther
 before-none [] h k = cc
 before-none (l ∷ ls) h k = cases (isEndLine l)

@@ -17,7 +17,7 @@ use Rattle.sheet.specs.Buffer.{pairLimit, textWidth, keyWidth, Cut, cutA
 use Rattle.sheet.specs.Form.{Entry, PairEntry, pairBytes, pairsOf, Form, formBytes, orderOf}
 
 -- what gives something was given something first
-andThen-only : {A B : Type 0} (o : Option A) (f : A → Option B) (b : B) → andThen o f ≡ some b → (a : A) × ((o ≡ some a) × (f a ≡ some b))
+pub andThen-only : {A B : Type 0} (o : Option A) (f : A → Option B) (b : B) → andThen o f ≡ some b → (a : A) × ((o ≡ some a) × (f a ≡ some b))
 andThen-only none f b h = absurd (some-none b (sym h))
 andThen-only (some a) f b h = (a, (refl, h))
 
@@ -35,11 +35,11 @@ cut-only n x c h = cases (leb n (length x))
     rw (← j) (take-append-drop n x, length-take-le n x (leb-true n (length x) e)))
     (λ e. absurd (some-none c (sym (rw (e, cut) at h))))
 
-sized-given : (n : ℕ) (e : Entry n) (y : List ℕ) → sized n (e .head ++ (e .bytes ++ y)) ≡ some (cutAs (e .bytes) y)
+pub sized-given : (n : ℕ) (e : Entry n) (y : List ℕ) → sized n (e .head ++ (e .bytes ++ y)) ≡ some (cutAs (e .bytes) y)
 unfolding sized
 sized-given n e y = rw (cut-given n (e .head) (e .bytes ++ y) (e .size), e .counted) (cut-given (length (e .bytes)) (e .bytes) y refl)
 
-sized-only : (n : ℕ) (x : List ℕ) (c : Cut) → sized n x ≡ some c → (e : Entry n) × ((e .head ++ (e .bytes ++ c .rest) ≡ x) × (e .bytes ≡ c .bytes))
+pub sized-only : (n : ℕ) (x : List ℕ) (c : Cut) → sized n x ≡ some c → (e : Entry n) × ((e .head ++ (e .bytes ++ c .rest) ≡ x) × (e .bytes ≡ c .bytes))
 unfolding sized
 sized-only n x c h =
     let (d, (i, j)) = andThen-only (cut n x) _ c h in

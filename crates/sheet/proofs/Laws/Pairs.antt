@@ -12,7 +12,7 @@ use Rattle.text.specs.Runs.{isEmpty, same}
 use Rattle.rules.specs.Items.{isSome}
 use Rattle.rules.proofs.Basics.{options}
 use Rattle.sheet.specs.declared.pairs.PairSpan.{PairSpan}
-use Rattle.sheet.specs.Order.{Pair, somePair, hasKey}
+use Rattle.sheet.specs.Order.{Pair, somePair, hasKey, valueFor}
 use Rattle.sheet.specs.Buffer.{PairCut, pairIn, pairsIn}
 use Rattle.sheet.specs.Faults.{repeats}
 use Rattle.sheet.specs.Spans.{HasPair, PairAt, pairOf, arePairs, pairsAt, HasPairs}
@@ -83,6 +83,13 @@ module _ (x : List ℕ) (p : ℕ) where
     pub pairs-left : (r : PairSpan) → PairAt x p r → HasPairs x (r .end) (n - 1)
     pairs-left r a = sym (arePairs-step n k _ (r .end) (a .is) refl) ∙ h
 
+-- ---- a pair sought by its key
+
+pub hasKey-valueFor : (k : List ℕ) (ps : List Pair) → hasKey k ps ≡ isSome (valueFor k ps)
+unfolding hasKey somePair valueFor isSome
+hasKey-valueFor k [] = refl
+hasKey-valueFor k (p ∷ ps) = cases (same (p .key) k) (λ h. rw (h, valueFor)) (λ h. rw (h, valueFor) (hasKey-valueFor k ps))
+
 -- ---- a test of the pairs, one at a time
 
 module _ (x : List ℕ) (p n : ℕ) where
@@ -90,9 +97,9 @@ module _ (x : List ℕ) (p n : ℕ) where
   unfolding somePair
   some-none f h = rw (pairsAt-none x p n h)
 
-  pub hasKey-none : (k : List ℕ) → n ≤ 0 → hasKey k (pairsAt x p n) ≡ false
-  unfolding hasKey
-  hasKey-none k h = some-none (λ q. same (q .key) k) h
+  pub valueFor-none : (k : List ℕ) → n ≤ 0 → valueFor k (pairsAt x p n) ≡ none
+  unfolding valueFor
+  valueFor-none k h = rw (pairsAt-none x p n h)
 
   pub repeats-none : n ≤ 0 → repeats (pairsAt x p n) ≡ false
   unfolding repeats
@@ -107,13 +114,13 @@ module _ (x : List ℕ) (p n : ℕ) where
     unfolding somePair
     some-skip f i = rw (pairs-step x p n h k r a, i)
 
-    pub hasKey-here : (w : List ℕ) → same (pairOf x r .key) w ≡ true → hasKey w (pairsAt x p n) ≡ true
-    unfolding hasKey
-    hasKey-here w i = some-here (λ q. same (q .key) w) i
+    pub valueFor-here : (w : List ℕ) → same (pairOf x r .key) w ≡ true → valueFor w (pairsAt x p n) ≡ some (pairOf x r .value)
+    unfolding valueFor
+    valueFor-here w i = rw (pairs-step x p n h k r a, i, valueFor)
 
-    pub hasKey-skip : (w : List ℕ) → same (pairOf x r .key) w ≡ false → hasKey w (pairsAt x p n) ≡ hasKey w (pairsAt x (r .end) (n - 1))
-    unfolding hasKey
-    hasKey-skip w i = some-skip (λ q. same (q .key) w) i
+    pub valueFor-skip : (w : List ℕ) → same (pairOf x r .key) w ≡ false → valueFor w (pairsAt x p n) ≡ valueFor w (pairsAt x (r .end) (n - 1))
+    unfolding valueFor
+    valueFor-skip w i = rw (pairs-step x p n h k r a, i, valueFor)
 
     pub repeats-here : hasKey (pairOf x r .key) (pairsAt x (r .end) (n - 1)) ≡ true → repeats (pairsAt x p n) ≡ true
     unfolding repeats

@@ -4,9 +4,9 @@ use Prim.Native.Nat.{ℕ}
 use Prim.Native.String.{String}
 use Rattle.text.specs.Runs.{word}
 use Rattle.text.specs.Cases.{Case, case, _holds_fails_, below}
-use Rattle.sheet.specs.Order.{hasKey}
+use Rattle.sheet.specs.Order.{hasKey, valueFor}
 use Rattle.sheet.specs.Faults.{isBreak, startsBlank, endsBlank, isBadText, hasBadText, isBadName, hasBadName, repeats, Judged, Refused, Good, judgedOrder, judged, OpenFaults}
-use Rattle.sheet.specs.Pinned.Forms.{told, there, orderParts, pairsOf, orderOf, truths, OpenForms}
+use Rattle.sheet.specs.Pinned.Forms.{told, found, missing, there, orderParts, pairsOf, orderOf, truths, OpenForms}
 
 -- the bytes that a text or a key may not have, at each place
 unfoldable pub byteCases : List Case
@@ -66,6 +66,20 @@ keyCases =
     ∷ repeatCase "a value as a key" ("A" ∷ "B" ∷ "B" ∷ "A" ∷ []) 0
     ∷ []
 
+-- the value of the first pair with a key, if there is one
+unfoldable pub valueCase : String → List String → List ℕ → Case
+valueCase k ws ns = case k (found (λ v. v ∷ []) (valueFor (word k) (pairsOf ws))) ns
+
+unfoldable pub valueCases : List Case
+valueCases =
+    valueCase "VIN" [] missing
+    ∷ valueCase "VIN" ("VIN" ∷ "7" ∷ []) (there ("7" ∷ []))
+    ∷ valueCase "VIN" ("VIN" ∷ "" ∷ []) (there ("" ∷ []))
+    ∷ valueCase "vIN" ("A" ∷ "x" ∷ "Vin" ∷ "7 8" ∷ "B" ∷ "y" ∷ []) (there ("7 8" ∷ []))
+    ∷ valueCase "VIN" ("VIN" ∷ "7" ∷ "vin" ∷ "8" ∷ []) (there ("7" ∷ []))
+    ∷ valueCase "VIN" ("VI" ∷ "x" ∷ "VINS" ∷ "y" ∷ "A" ∷ "VIN" ∷ []) missing
+    ∷ []
+
 -- an order, of which 13, 14 and 15 are true or not, and the number that it is refused by, 0 for none
 infix 100 _with_is_refused_
 unfoldable pub _with_is_refused_ : String → List String → List ℕ → ℕ → Case
@@ -121,5 +135,5 @@ judgedCases =
 
 -- opens these cases and what they are cases of
 unfoldable pub OpenFaultCases : Type 1
-unfolding OpenForms OpenFaults byteCases textCases nameCases keyCase repeatCase keyCases _with_is_refused_ turnCases judgedCase judgedCases
+unfolding OpenForms OpenFaults byteCases textCases nameCases keyCase repeatCase keyCases valueCase valueCases _with_is_refused_ turnCases judgedCase judgedCases
 OpenFaultCases = Type 0

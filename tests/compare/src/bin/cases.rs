@@ -29,7 +29,7 @@ fn run(directory: &Path) -> Result<usize, String> {
     for file in &files {
         for case in cases_of(file)? {
             cases += 1;
-            expectations += case.expectations.len();
+            expectations += case.expected();
             differences += report(file, &case);
         }
     }

@@ -1,6 +1,7 @@
-//! `compare [COUNT] [SEED]`: compares the library with the plain reader on seeded texts and orders.
+//! `compare [COUNT] [SEED]`: compares the library with the plain reader on seeded texts and orders,
+//! and on seeded books that orders are taken into.
 //!
-//! Text and order number k of a run are the first of a run with the seed SEED + k.
+//! Text, order and book number k of a run are the first of a run with the seed SEED + k.
 
 use std::process::ExitCode;
 use std::time::{Duration, Instant};
@@ -9,7 +10,10 @@ use comparison::check::{check, Tally};
 use comparison::dates::check_days;
 use comparison::drawers::REASONS;
 use comparison::escape::escape;
+use comparison::intake_situations;
+use comparison::intakes::check_intakes;
 use comparison::lists;
+use comparison::log_situations;
 use comparison::random::Random;
 use comparison::searches::MEETINGS;
 use comparison::sheet_situations;
@@ -19,6 +23,9 @@ use comparison::texts::{text, CLASSES};
 
 const COUNT: u64 = 200_000;
 const SEED: u64 = 1;
+
+/// Beside how many texts in a hundred a book goes.
+const BOOKS: usize = 25;
 
 /// The longest differing text that is printed whole.
 const SHOWN: usize = 4_000;
@@ -47,8 +54,7 @@ fn main() -> ExitCode {
             report(text);
             return ExitCode::FAILURE;
         }
-        let days = check_days(&mut random, &mut tally.dates);
-        if let Err(difference) = days.and_then(|()| check_sheets(&mut random, &mut tally.sheets)) {
+        if let Err(difference) = check_beside(&text, &mut random, &mut tally) {
             println!("seed {seed}: {difference}");
             return ExitCode::FAILURE;
         }
@@ -56,17 +62,27 @@ fn main() -> ExitCode {
     println!("{}", summary(count, &texts, &tally));
     if count >= COUNT && !sees_all(&texts, &tally) {
         eprintln!(
-            "compare: a class of text, an answer, a kind, a sort of lookup, list, search, date or \
-             sheet never came"
+            "compare: a class of text, an answer, a kind, a sort of lookup, list, search, date, \
+             sheet or intake never came"
         );
         return ExitCode::FAILURE;
     }
     ExitCode::SUCCESS
 }
 
+/// What goes beside a text: dates, an order, and now and then a book that orders are taken into.
+fn check_beside(text: &[u8], random: &mut Random, tally: &mut Tally) -> Result<(), String> {
+    check_days(random, &mut tally.dates)?;
+    check_sheets(random, &mut tally.sheets)?;
+    if random.chance(BOOKS) {
+        check_intakes(text, random, &mut tally.intakes)?;
+    }
+    Ok(())
+}
+
 /// Did each class of text, each answer of readings and lookups, each kind of record and each sort
-/// of lookup, with defaults too, of list, of search for a closer, of answer about dates and of sheet
-/// come?
+/// of lookup, with defaults too, of list, of search for a closer, of answer about dates, of sheet, of
+/// intake call and of log come?
 fn sees_all(texts: &[usize], tally: &Tally) -> bool {
     let lookups = [0, 1, 4, 5, 6, 7, 8, 9, 10].map(|number| tally.lookups[number]);
     let kinds = &tally.kinds[1..];
@@ -83,6 +99,8 @@ fn sees_all(texts: &[usize], tally: &Tally) -> bool {
         &tally.searches,
         &dates,
         &tally.sheets,
+        &tally.intakes.calls,
+        &tally.intakes.logs,
     ]
     .concat();
     seen.iter().all(|count| *count > 0)
@@ -112,12 +130,18 @@ fn summary(count: u64, texts: &[usize], tally: &Tally) -> String {
     let searches = by_name(searches.zip(tally.searches));
     let sheets = sheet_situations::SITUATIONS.iter();
     let sheets = by_name(sheets.map(|(situation, _)| *situation).zip(tally.sheets));
+    let intakes = intake_situations::SITUATIONS.iter();
+    let intakes = intakes.map(|(situation, _)| *situation);
+    let intakes = by_name(intakes.zip(tally.intakes.calls));
+    let logs = log_situations::SITUATIONS.iter();
+    let logs = logs.map(|(situation, _)| *situation);
+    let logs = by_name(logs.zip(tally.intakes.logs));
     let dates = tally.dates.seen();
     let dates = dates.map(|(about, seen)| format!("{about}: {}", by_name(seen.into_iter())));
     format!(
         "compare: {count} texts agree ({}); readings by number {}; lookups by number {}; \
          drawers: {drawers}; defaults: {defaults}; records by kind {}; lists: {lists}; \
-         searches for closers: {searches}; {}; sheets: {sheets}",
+         searches for closers: {searches}; {}; sheets: {sheets}; intake: {intakes}; logs: {logs}",
         classes.join(", "),
         by_number(&tally.readings),
         by_number(&tally.lookups),

@@ -14,8 +14,10 @@ returns : tie.Need-returns
 returns c =
     let start = c .before .before in
     let x = start .args .buffer .now in
-    let l = start .args .layout in
-    omega (arith, sheet-length (orderAt x l), part-length x textWidth (l .title) (omega arith), c .pairs-size .ensures .0)
+    let l = start .args .layout in (
+      omega (arith, sheet-length (orderAt x l), part-length x textWidth (l .title) (omega arith), c .pairs-size .ensures .0),
+      omega (arith, start .pre .short, start .pre .few, c .pairs-size .ensures .1),
+    )
 
 pub sheet-size-spec : {M : Type 1} → statement M
 sheet-size-spec =

@@ -1,0 +1,14 @@
+pub mod Between
+pub mod Seen
+pub mod Search
+pub mod Sheets
+pub mod Ended
+pub mod Grown
+pub mod Book
+pub mod Required
+pub mod Turns
+pub mod Calls
+pub mod Runs
+pub mod Again
+pub mod Orders
+pub mod Logs

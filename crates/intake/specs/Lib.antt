@@ -1,0 +1,9 @@
+pub mod Required
+pub mod Seen
+pub mod Book
+pub mod Call
+pub mod Log
+pub mod Form
+pub mod Promises
+pub mod Spans
+pub mod Pinned
