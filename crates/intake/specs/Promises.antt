@@ -1,6 +1,6 @@
 -- What is promised of a call, of any run of calls on one book, and of a log  [02 order 6].
 use mathlib.Core.Path.{_≡_}
-use mathlib.Core.List.{List, [], _∷_}
+use mathlib.Core.List.{List, _∷_}
 use Prim.Native.Nat.{ℕ, _<_}
 use lib.ListN.{length, take, drop}
 use Rattle.text.specs.Number
