@@ -41,7 +41,7 @@ const NOWHERE: usize = 0;
 
 // The number of a reading call's answer and its count.
 #[repr(C)]
-#[derive(Drop)]
+#[derive(Clone, Copy)]
 pub struct Reading {
     pub number: u32,
     pub count: usize,
@@ -93,7 +93,7 @@ pub extern "C" fn comaltzex_lookup_with_defaults(
 
 // What a search for a closer finds: 1 where there is one, else 0; its line's start and end, else 0; and how many lines it compared further.
 #[repr(C)]
-#[derive(Drop)]
+#[derive(Clone, Copy)]
 pub struct ClosingLine {
     pub found: u32,
     pub start: usize,
@@ -130,7 +130,7 @@ pub extern "C" fn comaltzex_find_closer(text: &[u8], at: usize, end: usize) -> C
 
 // The number of a day count's answer, and the days.
 #[repr(C)]
-#[derive(Drop)]
+#[derive(Clone, Copy)]
 pub struct DayCount {
     pub number: u32,
     pub days: i32,
@@ -167,7 +167,7 @@ pub extern "C" fn comaltzex_days_between(
 
 // A timestamp's kind, 0 for none, the byte after it, and its two dates.
 #[repr(C)]
-#[derive(Drop)]
+#[derive(Clone, Copy)]
 pub struct FoundStamp {
     pub kind: u32,
     pub end: usize,
@@ -206,7 +206,7 @@ fn found_stamp(timestamp: Timestamp, end: usize) -> FoundStamp
 
 // The number of a planning call's answer, and the stamps of the three keywords.
 #[repr(C)]
-#[derive(Drop)]
+#[derive(Clone, Copy)]
 pub struct Plan {
     pub number: u32,
     pub closed: Stamp,
@@ -254,7 +254,7 @@ fn no_plan(number: u32) -> Plan
 
 // The number of a sheet's answer and its count.
 #[repr(C)]
-#[derive(Drop)]
+#[derive(Clone, Copy)]
 pub struct Written {
     pub number: u32,
     pub count: usize,
@@ -274,7 +274,7 @@ pub extern "C" fn comaltzex_write_sheet(order: &[u8], out: &mut [u8]) -> Written
 
 // The number of an intake call's answer, and the bytes in use after it.
 #[repr(C)]
-#[derive(Drop)]
+#[derive(Clone, Copy)]
 pub struct Taken {
     pub number: u32,
     pub count: usize,

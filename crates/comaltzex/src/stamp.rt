@@ -6,7 +6,7 @@ use dates::stamp::{
 };
 
 #[repr(C)]
-#[derive(Drop)]
+#[derive(Clone, Copy)]
 pub struct DateNumbers {
     pub year: u32,
     pub month: u32,
@@ -15,7 +15,7 @@ pub struct DateNumbers {
 
 // Whether there is a time, and its hour and minute.
 #[repr(C)]
-#[derive(Drop)]
+#[derive(Clone, Copy)]
 pub struct ClockNumbers {
     pub has: u32,
     pub hour: u32,
@@ -23,14 +23,14 @@ pub struct ClockNumbers {
 }
 
 #[repr(C)]
-#[derive(Drop)]
+#[derive(Clone, Copy)]
 pub struct IntervalNumbers {
     pub count: u32,
     pub unit: u32,
 }
 
 #[repr(C)]
-#[derive(Drop)]
+#[derive(Clone, Copy)]
 pub struct RepeatNumbers {
     pub mark: u32,
     pub every: IntervalNumbers,
@@ -38,7 +38,7 @@ pub struct RepeatNumbers {
 }
 
 #[repr(C)]
-#[derive(Drop)]
+#[derive(Clone, Copy)]
 pub struct DelayNumbers {
     pub mark: u32,
     pub by: IntervalNumbers,
@@ -46,7 +46,7 @@ pub struct DelayNumbers {
 
 // A date with what belongs to it; what it lacks is 0. `swapped` is 1 where the delay stands before the repeater.
 #[repr(C)]
-#[derive(Drop)]
+#[derive(Clone, Copy)]
 pub struct MomentNumbers {
     pub date: DateNumbers,
     pub clock: ClockNumbers,
@@ -57,7 +57,7 @@ pub struct MomentNumbers {
 
 // A timestamp's kind, 0 for none, and its two dates.
 #[repr(C)]
-#[derive(Drop)]
+#[derive(Clone, Copy)]
 pub struct Stamp {
     pub kind: u32,
     pub first: MomentNumbers,

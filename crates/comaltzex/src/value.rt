@@ -12,7 +12,7 @@ const DEFAULTS: u32 = 2;
 
 // The number of a lookup's answer, the value's two ends, and a further number.
 #[repr(C)]
-#[derive(Drop)]
+#[derive(Clone, Copy)]
 pub struct Value {
     pub number: u32,
     pub start: usize,
@@ -22,7 +22,7 @@ pub struct Value {
 
 // The same with whose answer it is.
 #[repr(C)]
-#[derive(Drop)]
+#[derive(Clone, Copy)]
 pub struct SourcedValue {
     pub number: u32,
     pub whose: u32,

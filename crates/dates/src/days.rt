@@ -5,7 +5,7 @@ use crate::stamp::Date;
 use text::number;
 
 // A number, 0 or 11, and the days.
-#[derive(Drop)]
+#[derive(Clone, Copy)]
 pub struct Days {
     pub number: u32,
     pub days: i32,

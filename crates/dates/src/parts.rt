@@ -12,20 +12,20 @@ use text::bytes::{Class, is_digit, run_end};
 use text::word::begins_with;
 
 // What a reader finds from a byte on: a value and the byte after it, or nothing.
-#[derive(Drop)]
+#[derive(Clone, Copy)]
 pub enum Past {
     At(usize),
     Missing,
 }
 
-#[derive(Drop)]
+#[derive(Clone, Copy)]
 pub enum TimeAt {
     At(Time, usize),
     Missing,
 }
 
 // The times of a date: none, one, or a range's two; and the byte after them.
-#[derive(Drop)]
+#[derive(Clone, Copy)]
 pub struct Times {
     pub from: Clock,
     pub until: Clock,

@@ -10,7 +10,7 @@ use crate::span::skip_timestamp;
 use crate::stamp::Timestamp;
 use text::word::begins_with;
 
-#[derive(Drop)]
+#[derive(Clone, Copy)]
 pub enum Keyword {
     Closed,
     Deadline,
@@ -18,7 +18,7 @@ pub enum Keyword {
 }
 
 // The stamps of a planning line's keywords, each the last one where its keyword repeats.
-#[derive(Drop)]
+#[derive(Clone, Copy)]
 pub struct Planning {
     pub closed: Timestamp,
     pub deadline: Timestamp,
@@ -26,28 +26,28 @@ pub struct Planning {
 }
 
 // The bytes at which those stamps start; the line's end where there is none.
-#[derive(Drop)]
+#[derive(Clone, Copy)]
 pub struct Places {
     pub closed: usize,
     pub deadline: usize,
     pub scheduled: usize,
 }
 
-#[derive(Drop)]
+#[derive(Clone, Copy)]
 pub enum KeywordAt {
     At(Keyword, usize),
     Missing,
 }
 
 // A part of a planning line: its keyword, the byte at which its stamp starts, and the byte after it.
-#[derive(Drop)]
+#[derive(Clone, Copy)]
 pub enum PartAt {
     At(Keyword, usize, usize),
     Missing,
 }
 
 // The parts of a line that is planning all through.
-#[derive(Drop)]
+#[derive(Clone, Copy)]
 pub enum Parts {
     At(Places),
     Missing,

@@ -11,7 +11,7 @@ use crate::stamp::{Bracket, Clock, Half, Moment, Timestamp};
 use text::word::begins_with;
 
 // A timestamp, or none, and the byte after it.
-#[derive(Drop)]
+#[derive(Clone, Copy)]
 pub struct StampTo {
     pub timestamp: Timestamp,
     pub end: usize,

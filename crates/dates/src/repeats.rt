@@ -12,32 +12,32 @@ use text::word::begins_with;
 const DIGITS: usize = 9;
 
 // What a reader finds from a byte on: a value and the byte after it, or nothing.
-#[derive(Drop)]
+#[derive(Clone, Copy)]
 pub enum IntervalAt {
     At(Interval, usize),
     Missing,
 }
 
-#[derive(Drop)]
+#[derive(Clone, Copy)]
 pub enum MarkAt {
     At(Mark, usize),
     Missing,
 }
 
-#[derive(Drop)]
+#[derive(Clone, Copy)]
 pub enum RepeatAt {
     At(Repeat, usize),
     Missing,
 }
 
-#[derive(Drop)]
+#[derive(Clone, Copy)]
 pub enum DelayAt {
     At(Delay, usize),
     Missing,
 }
 
 // A repeater, a delay, both or neither, and the byte after them.
-#[derive(Drop)]
+#[derive(Clone, Copy)]
 pub struct RepeaterTo {
     pub repeater: Repeater,
     pub end: usize,

@@ -9,14 +9,14 @@ use crate::stamp::Clock;
 use text::word::begins_with;
 
 // The byte after one pair of brackets, and whether it has a time range.
-#[derive(Drop)]
+#[derive(Clone, Copy)]
 pub enum HalfAt {
     At(usize, bool),
     Missing,
 }
 
 // The byte after a timestamp of one date; or the byte at which its second half starts, and the byte after it.
-#[derive(Drop)]
+#[derive(Clone, Copy)]
 pub enum Span {
     One(usize),
     Two(usize, usize),

@@ -1,39 +1,39 @@
 // A date as written: only its shape is judged.
-#[derive(Drop)]
+#[derive(Clone, Copy)]
 pub struct Date {
     pub year: u32,
     pub month: u32,
     pub day: u32,
 }
 
-#[derive(Drop)]
+#[derive(Clone, Copy)]
 pub struct Time {
     pub hour: u32,
     pub minute: u32,
 }
 
 // A time, where there is one.
-#[derive(Drop)]
+#[derive(Clone, Copy)]
 pub enum Clock {
     Nothing,
     At(Time),
 }
 
-#[derive(Drop)]
+#[derive(Clone, Copy)]
 pub struct Moment {
     pub date: Date,
     pub clock: Clock,
 }
 
 // A number and its unit, one of `h d w m y`.
-#[derive(Drop)]
+#[derive(Clone, Copy)]
 pub struct Interval {
     pub count: u32,
     pub unit: u8,
 }
 
 // `+`, `++` and `.+`
-#[derive(Drop)]
+#[derive(Clone, Copy)]
 pub enum Mark {
     Cumulate,
     CatchUp,
@@ -41,13 +41,13 @@ pub enum Mark {
 }
 
 // What may follow a repeater: `/` and an interval.
-#[derive(Drop)]
+#[derive(Clone, Copy)]
 pub enum Limit {
     Nothing,
     Within(Interval),
 }
 
-#[derive(Drop)]
+#[derive(Clone, Copy)]
 pub struct Repeat {
     pub mark: Mark,
     pub every: Interval,
@@ -55,14 +55,14 @@ pub struct Repeat {
 }
 
 // `-`, or `--` for the first time only.
-#[derive(Drop)]
+#[derive(Clone, Copy)]
 pub struct Delay {
     pub first: bool,
     pub by: Interval,
 }
 
 // A repeater, a delay, or both in either order.
-#[derive(Drop)]
+#[derive(Clone, Copy)]
 pub enum Repeater {
     Nothing,
     Repeats(Repeat),
@@ -71,14 +71,14 @@ pub enum Repeater {
     DelaysRepeats(Delay, Repeat),
 }
 
-#[derive(Drop)]
+#[derive(Clone, Copy)]
 pub enum Bracket {
     Active,
     Inactive,
 }
 
 // A timestamp: of one date; with a time range, whose first time is the moment's; with a second date; or none.
-#[derive(Drop)]
+#[derive(Clone, Copy)]
 pub enum Timestamp {
     Nothing,
     Single(Bracket, Moment, Repeater),
@@ -87,7 +87,7 @@ pub enum Timestamp {
 }
 
 // What stands in one pair of brackets; `until` is the end of a time range.
-#[derive(Drop)]
+#[derive(Clone, Copy)]
 pub struct Half {
     pub moment: Moment,
     pub until: Clock,

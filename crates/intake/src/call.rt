@@ -15,7 +15,7 @@ use sheet::layout::Layout;
 use text::{limit, number};
 
 // The number of an answer, and the bytes in use after it.
-#[derive(Drop)]
+#[derive(Clone, Copy)]
 pub struct Taken {
     pub number: u32,
     pub used: usize,

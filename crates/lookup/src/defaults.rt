@@ -8,7 +8,7 @@ use text::limit;
 use text::word::is_word;
 
 // An answer, and whose it is: the order text's or the defaults'.  [02 order 13]
-#[derive(Drop)]
+#[derive(Clone, Copy)]
 pub enum Sourced {
     Order(Answer),
     Defaults(Answer),

@@ -14,7 +14,7 @@ use text::word::is_word;
 
 // The lines of a property drawer, from a byte to a byte; or why there is none, for `NotProperty` with the start of the first line that is no
 // node property.  [02 order 2]
-#[derive(Drop)]
+#[derive(Clone, Copy)]
 pub enum Drawer {
     Lines(usize, usize),
     BlankFirst,

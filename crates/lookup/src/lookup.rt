@@ -9,7 +9,7 @@ use crate::stages::{Heading, Value, find_heading, find_value, is_bad_key};
 use text::limit;
 
 // The answer of a lookup: with the value's two ends, and of `NotProperty` with the line's start.  [01 "Numbers of an answer", 02 order 2]
-#[derive(Drop)]
+#[derive(Clone, Copy)]
 pub enum Answer {
     Found(usize, usize),
     TooLong,

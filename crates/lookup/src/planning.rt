@@ -8,7 +8,7 @@ use text::limit;
 use text::line::line_at;
 
 // The stamps of a heading's planning line.
-#[derive(Drop)]
+#[derive(Clone, Copy)]
 pub enum Answer {
     Found(Planning),
     TooLong,
@@ -16,7 +16,7 @@ pub enum Answer {
 }
 
 // A line's body, from a byte to a byte.
-#[derive(Drop)]
+#[derive(Clone, Copy)]
 pub struct Body {
     pub from: usize,
     pub to: usize,

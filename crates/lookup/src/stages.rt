@@ -11,14 +11,14 @@ use text::marks::word_end;
 use text::word::is_word;
 
 // The first byte after a heading line.
-#[derive(Drop)]
+#[derive(Clone, Copy)]
 pub enum Heading {
     Before(usize),
     Missing,
 }
 
 // A property's value, from a byte to a byte.
-#[derive(Drop)]
+#[derive(Clone, Copy)]
 pub enum Value {
     Part(usize, usize),
     Missing,

@@ -3,7 +3,7 @@ ghost use Rattle.std.specs.Prelude.{◌≡◌, length};
 ghost use Rattle.orgtable.specs.Input.{step_of, input_of, StepWithin, InputWithin};
 
 // What one read came to.
-#[derive(Drop)]
+#[derive(Clone, Copy)]
 pub enum Step {
     More(usize),
     End,
@@ -11,7 +11,7 @@ pub enum Step {
 }
 
 // What the whole input came to: so many bytes, more than the buffer holds, or a failed read.
-#[derive(Drop)]
+#[derive(Clone, Copy)]
 pub enum Input {
     Bytes(usize),
     TooLong,

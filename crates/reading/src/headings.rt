@@ -86,7 +86,7 @@ fn unwritten() -> Record
 }
 
 // Where the next heading line starts, or the text's end, and the sink and the line number there.
-#[derive(Drop)]
+#[derive(Clone, Copy)]
 pub struct Turn {
     pub next: usize,
     pub sink: Sink,

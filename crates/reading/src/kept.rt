@@ -9,7 +9,7 @@ use crate::sink::Sink;
 
 // The records that stand in a store: so many, up to the heading line at `at` of number `line`, before which the heading of index `last` stands.
 // 0 where none do.
-#[derive(Drop)]
+#[derive(Clone, Copy)]
 pub struct Kept {
     pub at: usize,
     pub line: usize,

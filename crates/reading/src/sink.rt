@@ -9,7 +9,7 @@ use table::record::Record;
 use text::limit;
 
 // The end of every record stream: it counts the records, writes them in the writing mode, and once stopped takes no more.
-#[derive(Drop)]
+#[derive(Clone, Copy)]
 pub struct Sink {
     pub count: usize,
     pub writing: bool,

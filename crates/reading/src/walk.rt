@@ -116,7 +116,7 @@ fn depth_in(depth: usize, kind: usize) -> usize
 }
 
 // An element, where the next one starts, the line number there, and what its scope says besides the end.
-#[derive(Drop)]
+#[derive(Clone, Copy)]
 pub struct Step {
     pub e: Element,
     pub end: usize,
@@ -166,7 +166,7 @@ fn next_element(
 }
 
 // The sink, and the line number where what was read ends.
-#[derive(Drop)]
+#[derive(Clone, Copy)]
 pub struct Reached {
     pub sink: Sink,
     pub line: usize,

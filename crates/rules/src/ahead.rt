@@ -17,7 +17,7 @@ use text::word::begins_with;
 const ALL_NAMES: u64 = 9223372036854775807;
 
 // A run of lines, and what is known of those after them.
-#[derive(Drop)]
+#[derive(Clone, Copy)]
 pub struct Further {
     pub run: LineRun,
     pub ends: bool,
@@ -25,7 +25,7 @@ pub struct Further {
 }
 
 // An element, and what is known of the lines after its own.
-#[derive(Drop)]
+#[derive(Clone, Copy)]
 pub struct Parsed {
     pub element: Element,
     pub ends: bool,

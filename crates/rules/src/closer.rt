@@ -8,7 +8,7 @@ use text::bytes::{Class, lower, run_end, trim_end};
 use text::line::line_end;
 
 // The closing line, where there is one: its start, its end, and how many lines stand before it.
-#[derive(Drop)]
+#[derive(Clone, Copy)]
 pub enum Closer {
     At {
         start: usize,
@@ -19,7 +19,7 @@ pub enum Closer {
 }
 
 // What a search for a closer finds, and how many lines it compared further.  [02 order 3]
-#[derive(Drop)]
+#[derive(Clone, Copy)]
 pub struct Search {
     pub closer: Closer,
     pub compared: usize,

@@ -10,7 +10,7 @@ use dates::parts::Past;
 use text::bytes::{Class, is_digit, is_nonblank, lower, run_end};
 
 // A bullet, a sign or a number or letter, and the byte right after it.  [02 order 4]
-#[derive(Drop)]
+#[derive(Clone, Copy)]
 pub enum Bullet {
     Sign(usize),
     Number(usize),
@@ -18,7 +18,7 @@ pub enum Bullet {
 }
 
 // A class of bytes of which one stands in a bullet, a counter set or a check box: `.` and `)`; `[`; `@`; a blank byte, `X` and `-`; `]`.
-#[derive(Drop)]
+#[derive(Clone, Copy)]
 pub enum ItemByte {
     Stop,
     Opening,

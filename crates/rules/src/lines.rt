@@ -16,7 +16,7 @@ use text::line::{LineSpan, line_end};
 use text::word::begins_with;
 
 // A class of lines that stand together.
-#[derive(Drop)]
+#[derive(Clone, Copy)]
 pub enum LineClass {
     Row,
     Formula,
@@ -55,7 +55,7 @@ fn starts_line(text: &[u8], at: usize, to: usize, class: LineClass) -> bool
 }
 
 // A run of lines: where it ends, and how many they are.
-#[derive(Drop)]
+#[derive(Clone, Copy)]
 pub struct LineRun {
     pub end: usize,
     pub lines: usize,

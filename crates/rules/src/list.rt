@@ -63,7 +63,7 @@ fn lines_together(text: &[u8], start: usize, body: usize, scope: Scope) -> Furth
 }
 
 // The next line that is not blank: where it and its body start, its indentation, and how many blank lines stand before it, one at most.
-#[derive(Drop)]
+#[derive(Clone, Copy)]
 pub enum Next {
     Line {
         start: usize,
@@ -97,7 +97,7 @@ fn find_next(text: &[u8], at: usize, to: usize) -> Next
 }
 
 // Lines of an item, and whether they are all that it has.
-#[derive(Drop)]
+#[derive(Clone, Copy)]
 pub struct Stretch {
     pub run: LineRun,
     pub whole: bool,

@@ -10,7 +10,7 @@ pub const TEXT_WIDTH: usize = 2;
 pub const KEY_WIDTH: usize = 1;
 
 // Some bytes of a buffer, from a byte to a byte.
-#[derive(Drop)]
+#[derive(Clone, Copy)]
 pub enum Part {
     At(usize, usize),
     Missing,

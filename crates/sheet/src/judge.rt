@@ -6,7 +6,7 @@ use crate::layout::{Found, Layout, find_order};
 use text::number;
 
 // Where a buffer's order stands, or the number that it is refused by.
-#[derive(Drop)]
+#[derive(Clone, Copy)]
 pub enum Verdict {
     Good(Layout),
     Refused(u32),

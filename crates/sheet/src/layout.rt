@@ -8,13 +8,13 @@ use crate::pairs::are_pairs;
 const PAIR_LIMIT: usize = 16;
 
 // Where the title ends, which starts after its length, and how many pairs stand after the count byte.
-#[derive(Drop)]
+#[derive(Clone, Copy)]
 pub struct Layout {
     pub title: usize,
     pub count: usize,
 }
 
-#[derive(Drop)]
+#[derive(Clone, Copy)]
 pub enum Found {
     Order(Layout),
     Nothing,

@@ -5,7 +5,7 @@ ghost use Rattle.sheet.specs.Spans.{HasPair, PairAt, are_pairs};
 use crate::buffer::{KEY_WIDTH, Part, TEXT_WIDTH, find_sized, low_first};
 
 // A pair's key stands from `from` to `to`, its value from `value` to `end`, where the pair ends.
-#[derive(Drop)]
+#[derive(Clone, Copy)]
 pub struct PairSpan {
     pub from: usize,
     pub to: usize,

@@ -11,7 +11,7 @@ use crate::size::sheet_size;
 use text::{limit, number};
 
 // The number of an answer; with 0 the sheet's length, with 16 the bytes needed, else 0.
-#[derive(Drop)]
+#[derive(Clone, Copy)]
 pub struct Written {
     pub number: u32,
     pub count: usize,

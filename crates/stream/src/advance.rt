@@ -10,7 +10,7 @@ use rules::heading::next_star_line;
 use text::bytes::{Class, find_byte, run_end, trim_end};
 
 // The state after some bytes more, where the next byte stands, and what they finish.
-#[derive(Drop)]
+#[derive(Clone, Copy)]
 pub struct Progress {
     pub state: Stream,
     pub at: usize,

@@ -8,7 +8,7 @@ use text::{limit, number};
 
 // The state after a call, the number of its answer, and a count of headings: those written, or with 3 those there is no room for.
 #[repr(C)]
-#[derive(Drop)]
+#[derive(Clone, Copy)]
 pub struct Streamed {
     pub state: Stream,
     pub number: u32,

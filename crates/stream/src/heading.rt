@@ -5,7 +5,7 @@ ghost use Rattle.stream.specs.Spans.{headings_of};
 use crate::state::{Stream, in_heading};
 
 // A heading line's start, its stars, and the length of its title.
-#[derive(Drop)]
+#[derive(Clone, Copy)]
 pub struct Heading {
     pub start: u32,
     pub stars: u32,
@@ -13,7 +13,7 @@ pub struct Heading {
 }
 
 // What a line that is finished gives: a heading, or nothing.
-#[derive(Drop)]
+#[derive(Clone, Copy)]
 pub enum Finished {
     Line(Heading),
     Nothing,

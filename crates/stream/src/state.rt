@@ -8,7 +8,7 @@ use text::limit;
 // What is known of a book after some of its bytes: how many they are; of the line that is not finished its bytes, its stars while it is or may be a
 // heading line, and the length of its title; and whether the end has been declared: 0 if not.
 #[repr(C)]
-#[derive(Drop)]
+#[derive(Clone, Copy)]
 pub struct Stream {
     pub total: u32,
     pub line: u32,
