@@ -12,13 +12,13 @@ use Rattle.comaltzex.proofs.comaltzex_days_between.Tie as tie
 returns : tie.Need-returns
 returns c =
     let at-days-between = c.before in
-    let d = at-days-between.days-between.ensures in
-    let z = at-days-between.days-between.result.days in
-    let back : to_z w32 (of_z w32 z) ≡ z = to_z-of_z w32 z (record { sfits = c.struct_told.given.1.0.1 }) in
+    let d = at-days-between.days_between-days.ensures in
+    let z = at-days-between.days_between-days.result.days in
+    let back : to_z w32 (of_z w32 z) ≡ z = to_z-of_z w32 z (record { sfits = c.struct_told-1.given.1.0.1 }) in
     record { number = d.0; days = back ∙ d.1; counted = counted }
 
-pub comaltzex-days-between-spec : {M : Type 1} → statement M
-comaltzex-days-between-spec =
+pub comaltzex_days_between_spec : {M : Type 1} → statement M
+comaltzex_days_between_spec =
     tie.close
     (tie.spec
     (λ c κs. search rules)

@@ -12,17 +12,17 @@ use Rattle.comaltzex.proofs.comaltzex_find_closer.Statement.{statement}
 use Rattle.comaltzex.proofs.comaltzex_find_closer.Tie as tie
 
 -- a finding x whose closer is known to be c, in numbers
-as-numbers : (s : List ℕ) (p e : ℕ) (x : Search) (c : Closer) → x.closer ≡ c → x ≡ search_from s p e
+as-numbers : (s : List ℕ) (p e : ℕ) (x : Search) (c : Closer) → x.closer-1 ≡ c → x ≡ search_from s p e
     → SearchesAs s p e (record { found = found_number c; start = closer_start c; end = closer_end c; compared = x.compared })
 as-numbers s p e x c h i =
-    let is : c ≡ (search_from s p e).closer = sym h ∙ ap (λ (y : Search). y.closer) i in
+    let is : c ≡ (search_from s p e).closer-1 = sym h ∙ ap (λ (y : Search). y.closer-1) i in
     record { found = ap found_number is; start = ap closer_start is; end = ap closer_end is; compared = ap (λ (y : Search). y.compared) i }
 
-returns : tie.Need-returns
-returns c = as-numbers _ _ _ _ _ c.before.closer.given.1 c.before.before.before.search-from.ensures
+returns : tie.Need-returns-in-At
+returns c = as-numbers _ _ _ _ _ c.before.closer-1.given.1 c.before.before.before.search_from-search.ensures
 
-returns-2 : tie.Need-returns-2
-returns-2 c = as-numbers _ _ _ _ _ c.enum_told.given.1 c.before.before.search-from.ensures
+returns-2 : tie.Need-returns-in-Nothing
+returns-2 c = as-numbers _ _ _ _ _ c.enum_told-1.given.1 c.before.before.search_from-search.ensures
 
-pub comaltzex-find-closer-spec : {M : Type 1} → statement M
-comaltzex-find-closer-spec = tie.close (tie.spec (λ c κs. search rules) (λ c. search rules) (λ c. search rules) returns returns-2)
+pub comaltzex_find_closer_spec : {M : Type 1} → statement M
+comaltzex_find_closer_spec = tie.close (tie.spec (λ c κs. search rules) (λ c. search rules) (λ c. search rules) returns returns-2)

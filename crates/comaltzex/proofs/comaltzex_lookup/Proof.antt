@@ -17,7 +17,7 @@ in-numbers s p k h = record { number = refl; start = refl; end = refl; further =
 returns : tie.Need-returns
 returns c =
     let answered = c.before.lookup.ensures in
-    rw (c.value-numbers.ensures, answered.0) (in-numbers _ _ _ (rw answered.0 at answered.1))
+    rw (c.value_numbers.ensures, answered.0) (in-numbers _ _ _ (rw answered.0 at answered.1))
 
-pub comaltzex-lookup-spec : {M : Type 1} → statement M
-comaltzex-lookup-spec = tie.close (tie.spec (λ c κs. search rules) (λ c κs. search rules) returns)
+pub comaltzex_lookup_spec : {M : Type 1} → statement M
+comaltzex_lookup_spec = tie.close (tie.spec (λ c κs. search rules) (λ c κs. search rules) returns)

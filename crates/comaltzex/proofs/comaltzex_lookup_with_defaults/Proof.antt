@@ -16,8 +16,8 @@ in-numbers s p d k h = record { number = refl; whose = refl; start = refl; end =
 
 returns : tie.Need-returns
 returns c =
-    let answered = c.before.lookup-with-defaults.ensures in
-    rw (c.sourced-numbers.ensures, answered.0) (in-numbers _ _ _ _ (rw answered.0 at answered.1))
+    let answered = c.before.lookup_with_defaults.ensures in
+    rw (c.sourced_numbers.ensures, answered.0) (in-numbers _ _ _ _ (rw answered.0 at answered.1))
 
-pub comaltzex-lookup-with-defaults-spec : {M : Type 1} → statement M
-comaltzex-lookup-with-defaults-spec = tie.close (tie.spec (λ c κs. search rules) (λ c κs. search rules) returns)
+pub comaltzex_lookup_with_defaults_spec : {M : Type 1} → statement M
+comaltzex_lookup_with_defaults_spec = tie.close (tie.spec (λ c κs. search rules) (λ c κs. search rules) returns)

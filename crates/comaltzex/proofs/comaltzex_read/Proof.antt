@@ -21,20 +21,20 @@ as-numbers s t x a t' r h settled v = record {
   count = ap (λ (y : Reading). y.count) v;
 }
 
-returns : tie.Need-returns
-returns c = as-numbers _ _ _ _ _ _ c.before.before.n.given.1 c.before.before.before.before.before.before.read.ensures c.answered.ensures
+returns : tie.Need-returns-in-Done
+returns c = as-numbers _ _ _ _ _ _ c.before.before.n-1.given.1 c.before.before.before.before.before.before.read.ensures c.answered.ensures
 
-returns-2 : tie.Need-returns-2
-returns-2 c = as-numbers _ _ _ _ _ _ c.before.enum_told.given.1 c.before.before.before.before.before.read.ensures c.answered2.ensures
+returns-2 : tie.Need-returns-in-TooLong
+returns-2 c = as-numbers _ _ _ _ _ _ c.before.enum_told-1.given.1 c.before.before.before.before.before.read.ensures c.answered-in-TooLong.ensures
 
-returns-3 : tie.Need-returns-3
-returns-3 c = as-numbers _ _ _ _ _ _ c.before.enum-told2.given.1 c.before.before.before.before.before.read.ensures c.answered3.ensures
+returns-3 : tie.Need-returns-in-TooDeep
+returns-3 c = as-numbers _ _ _ _ _ _ c.before.enum_told-in-TooDeep-1.given.1 c.before.before.before.before.before.read.ensures c.answered-in-TooDeep.ensures
 
-returns-4 : tie.Need-returns-4
-returns-4 c = as-numbers _ _ _ _ _ _ c.before.before.n2.given.1 c.before.before.before.before.before.before.read.ensures c.answered4.ensures
+returns-4 : tie.Need-returns-in-NoRoom
+returns-4 c = as-numbers _ _ _ _ _ _ c.before.before.n-in-NoRoom-1.given.1 c.before.before.before.before.before.before.read.ensures c.answered-in-NoRoom.ensures
 
-pub comaltzex-read-spec : {M : Type 1} → statement M
-comaltzex-read-spec =
+pub comaltzex_read_spec : {M : Type 1} → statement M
+comaltzex_read_spec =
     tie.close
     (tie.spec
     (λ c κs. search rules)

@@ -18,23 +18,23 @@ timestamp-past : (s : List ℕ) (p : ℕ) → length s < p → timestamp (part s
 unfolding timestamp begins word
 timestamp-past s p h = ap timestamp (part-nil s p (length s) (omega arith))
 
-returns : tie.Need-returns
+returns : tie.Need-returns-then-to-at
 returns c =
     let start = c.before.before.before in
-    c.found-stamp.ensures ∙ rw (timestamp-past start.args.text.now start.args.at (omega arith))
+    c.found_stamp.ensures ∙ rw (timestamp-past start.args.text.now start.args.at (omega arith))
 
-returns-2 : tie.Need-returns-2
+returns-2 : tie.Need-returns
 returns-2 c =
-    let call = c.before.read-timestamp in
+    let call = c.before.read_timestamp-stamp in
     let start = c.before.before.before.before in
     let s = start.args.text.now in
     let end = call.result.end in
     let is : timestamp (part s start.args.at (length s)) ≡ (call.result.timestamp, part s end (length s)) = call.ensures.is in
     let left : length s - (length s - end) ≡ end = omega (arith, call.ensures.to) in
-    rw (c.found-stamp2.ensures, is, part_length s end (length s) (omega arith), left)
+    rw (c.found_stamp-2.ensures, is, part_length s end (length s) (omega arith), left)
 
-pub comaltzex-timestamp-spec : {M : Type 1} → statement M
-comaltzex-timestamp-spec =
+pub comaltzex_timestamp_spec : {M : Type 1} → statement M
+comaltzex_timestamp_spec =
     tie.close
     (tie.spec
     (λ c κs. search rules)

@@ -7,10 +7,10 @@ use Rattle.comaltzex.proofs.planned.Tie as tie
 returns : tie.Need-returns
 returns c =
     let at-stamp-numbers2 = c.before in
-    rw (at-stamp-numbers2.before.stamp-numbers.ensures, at-stamp-numbers2.stamp-numbers2.ensures, c.stamp-numbers3.ensures)
+    rw (at-stamp-numbers2.before.stamp_numbers.ensures, at-stamp-numbers2.stamp_numbers-2.ensures, c.stamp_numbers-3.ensures)
 
-pub planned-spec : {M : Type 1} → statement M
-planned-spec =
+pub planned_spec : {M : Type 1} → statement M
+planned_spec =
     tie.close
     (tie.spec
     (λ c κs. search rules)

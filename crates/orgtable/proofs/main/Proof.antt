@@ -5,9 +5,9 @@ use borrow.Author.Rules.{rules}
 use Rattle.orgtable.proofs.main.Statement.{statement}
 use Rattle.orgtable.proofs.main.Tie as tie
 
-print-input-requires : tie.Need-print-input-requires
+print-input-requires : tie.Need-print_input-requires
 print-input-requires c κs =
-    let read = c.before.before.before.before.read-input in
+    let read = c.before.before.before.before.read_input-input in
     let same = read.auto.1.0 in
     (rw same read.ensures, (omega arith, omega arith))
 

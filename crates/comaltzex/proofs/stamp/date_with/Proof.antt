@@ -5,10 +5,10 @@ use Rattle.comaltzex.proofs.stamp.date_with.Statement.{statement}
 use Rattle.comaltzex.proofs.stamp.date_with.Tie as tie
 
 returns : tie.Need-returns
-returns c = rw c.clock-numbers.ensures
+returns c = rw c.clock_numbers.ensures
 
-pub date-with-spec : {M : Type 1} → statement M
-date-with-spec =
+pub date_with_spec : {M : Type 1} → statement M
+date_with_spec =
     tie.close
     (tie.spec
     (λ c κs. search rules)

@@ -5,14 +5,14 @@ use native.Mathlib.Omega.{arith}
 use Rattle.comaltzex.proofs.stamp.kind_number.Statement.{statement}
 use Rattle.comaltzex.proofs.stamp.kind_number.Tie as tie
 
-returns : tie.Need-returns
-returns c = rw c.enum_told.given.1
+returns : tie.Need-returns-in-Active
+returns c = rw c.enum_told-1.given.1
 
-returns-2 : tie.Need-returns-2
-returns-2 c = rw c.enum-told2.given.1
+returns-2 : tie.Need-returns-in-Inactive
+returns-2 c = rw c.enum_told-in-Inactive-1.given.1
 
-pub kind-number-spec : {M : Type 1} → statement M
-kind-number-spec =
+pub kind_number_spec : {M : Type 1} → statement M
+kind_number_spec =
     tie.close
     (tie.spec
     (λ c. search rules)

@@ -4,14 +4,14 @@ use borrow.Author.Rules.{rules}
 use Rattle.comaltzex.proofs.stamp.limit_numbers.Statement.{statement}
 use Rattle.comaltzex.proofs.stamp.limit_numbers.Tie as tie
 
-returns : tie.Need-returns
-returns c = rw c.before.enum_told.given.1 c.no-interval.ensures
+returns : tie.Need-returns-in-Nothing
+returns c = rw c.before.enum_told-1.given.1 c.no_interval.ensures
 
-returns-2 : tie.Need-returns-2
-returns-2 c = rw c.before.before.limit.given.1 c.interval-numbers.ensures
+returns-2 : tie.Need-returns-in-Within
+returns-2 c = rw c.before.before.limit-1.given.1 c.interval_numbers.ensures
 
-pub limit-numbers-spec : {M : Type 1} → statement M
-limit-numbers-spec =
+pub limit_numbers_spec : {M : Type 1} → statement M
+limit_numbers_spec =
     tie.close
     (tie.spec
     (λ c. search rules)

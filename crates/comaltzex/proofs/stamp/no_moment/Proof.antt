@@ -5,10 +5,10 @@ use Rattle.comaltzex.proofs.stamp.no_moment.Statement.{statement}
 use Rattle.comaltzex.proofs.stamp.no_moment.Tie as tie
 
 returns : tie.Need-returns
-returns c = rw (c.before.no-repeat.ensures, c.no-delay.ensures)
+returns c = rw (c.before.no_repeat.ensures, c.no_delay.ensures)
 
-pub no-moment-spec : {M : Type 1} → statement M
-no-moment-spec =
+pub no_moment_spec : {M : Type 1} → statement M
+no_moment_spec =
     tie.close
     (tie.spec
     (λ c κs. search rules)

@@ -7,10 +7,10 @@ use Rattle.comaltzex.proofs.stamp.repeat_numbers.Tie as tie
 returns : tie.Need-returns
 returns c =
     let at-interval-numbers = c.before in
-    rw (at-interval-numbers.before.mark-number.ensures, at-interval-numbers.interval-numbers.ensures, c.limit-numbers.ensures)
+    rw (at-interval-numbers.before.mark_number.ensures, at-interval-numbers.interval_numbers.ensures, c.limit_numbers.ensures)
 
-pub repeat-numbers-spec : {M : Type 1} → statement M
-repeat-numbers-spec =
+pub repeat_numbers_spec : {M : Type 1} → statement M
+repeat_numbers_spec =
     tie.close
     (tie.spec
     (λ c κs. search rules)

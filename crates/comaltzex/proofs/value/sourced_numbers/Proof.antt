@@ -7,18 +7,18 @@ use Rattle.comaltzex.specs.Values.{sourced_value}
 use Rattle.comaltzex.proofs.value.sourced_numbers.Statement.{statement}
 use Rattle.comaltzex.proofs.value.sourced_numbers.Tie as tie
 
-returns : tie.Need-returns
+returns : tie.Need-returns-in-Order
 returns c =
     let at_value = c.before in
-    rw at_value.before.before.answer.given.1 (c.sourced-value.ensures ∙ ap (sourced_value the_order) at_value.value-numbers.ensures)
+    rw at_value.before.before.answer-1.given.1 (c.sourced_value.ensures ∙ ap (sourced_value the_order) at_value.value_numbers.ensures)
 
-returns-2 : tie.Need-returns-2
+returns-2 : tie.Need-returns-in-Defaults
 returns-2 c =
     let at_value = c.before in
-    rw at_value.before.before.answer2.given.1 (c.sourced-value2.ensures ∙ ap (sourced_value the_defaults) at_value.value-numbers2.ensures)
+    rw at_value.before.before.answer-in-Defaults-1.given.1 (c.sourced_value-in-Defaults.ensures ∙ ap (sourced_value the_defaults) at_value.value_numbers-in-Defaults.ensures)
 
-pub sourced-numbers-spec : {M : Type 1} → statement M
-sourced-numbers-spec =
+pub sourced_numbers_spec : {M : Type 1} → statement M
+sourced_numbers_spec =
     tie.close
     (tie.spec
     (λ c. search rules)

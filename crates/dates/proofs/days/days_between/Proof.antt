@@ -20,42 +20,42 @@ unfolding number days
 refused a b (inl e) = (rw e, rw e)
 refused a b (inr e) = (rw (e, and-false), rw (e, and-false))
 
-is-calendar-day-requires : tie.Need-is-calendar-day-requires
+is-calendar-day-requires : tie.Need-is_calendar_day-requires
 is-calendar-day-requires c κs = search rules
 
-returns : tie.Need-returns
-returns c = let e = sym c.before.is-calendar-day.ensures ∙ not-true _ c.if1.true in refused _ _ (search (either, e))
+returns : tie.Need-returns-then-not-is_calendar_day
+returns c = let e = sym c.before.is_calendar_day.ensures ∙ not-true _ c.if-not-is_calendar_day.true in refused _ _ (search (either, e))
 
-is-calendar-day-requires-2 : tie.Need-is-calendar-day-requires-2
+is-calendar-day-requires-2 : tie.Need-is_calendar_day-requires-2
 is-calendar-day-requires-2 c κs = search rules
 
-returns-2 : tie.Need-returns-2
-returns-2 c = let e = sym c.before.is-calendar-day2.ensures ∙ not-true _ c.if2.true in refused _ _ (search (either, e))
+returns-2 : tie.Need-returns-then-not-is_calendar_day-2
+returns-2 c = let e = sym c.before.is_calendar_day-2.ensures ∙ not-true _ c.if-not-is_calendar_day-2.true in refused _ _ (search (either, e))
 
-day-number-requires : tie.Need-day-number-requires
-day-number-requires c κs = sym c.before.before.before.is-calendar-day.ensures ∙ not-false _ c.before.before.if1.false
+day-number-requires : tie.Need-day_number-from-requires
+day-number-requires c κs = sym c.before.before.before.is_calendar_day.ensures ∙ not-false _ c.before.before.if-not-is_calendar_day.false
 
-day-number-requires-2 : tie.Need-day-number-requires-2
-day-number-requires-2 c κs = sym c.before.before.is-calendar-day2.ensures ∙ not-false _ c.before.if2.false
+day-number-requires-2 : tie.Need-day_number-to-requires
+day-number-requires-2 c κs = sym c.before.before.is_calendar_day-2.ensures ∙ not-false _ c.before.if-not-is_calendar_day-2.false
 
 sub-t7 : tie.Need-overflow-sub-t7
-sub-t7 c = search (difference-fits, c.before.day-number.ensures.0, c.before.day-number.ensures.1, c.day-number2.ensures.0, c.day-number2.ensures.1)
+sub-t7 c = search (difference-fits, c.before.day_number-from.ensures.0, c.before.day_number-from.ensures.1, c.day_number-to.ensures.0, c.day_number-to.ensures.1)
 
-returns-3 : tie.Need-returns-3
+returns-3 : tie.Need-returns
 unfolding number days
 returns-3 c =
     let b = c.before.before in
-    let e = sym b.before.before.before.is-calendar-day.ensures ∙ not-false _ b.before.before.if1.false in
-    let f = sym b.before.is-calendar-day2.ensures ∙ not-false _ b.if2.false in (
+    let e = sym b.before.before.before.is_calendar_day.ensures ∙ not-false _ b.before.before.if-not-is_calendar_day.false in
+    let f = sym b.before.is_calendar_day-2.ensures ∙ not-false _ b.if-not-is_calendar_day-2.false in (
       rw (
         e,
         f,
       ),
-      rw (e, f) (difference _ _ _ _ c.before.day-number.ensures.0 c.day-number2.ensures.0 c.before.day-number.ensures.1 c.day-number2.ensures.1),
+      rw (e, f) (difference _ _ _ _ c.before.day_number-from.ensures.0 c.day_number-to.ensures.0 c.before.day_number-from.ensures.1 c.day_number-to.ensures.1),
     )
 
-pub days-between-spec : {M : Type 1} → statement M
-days-between-spec =
+pub days_between_spec : {M : Type 1} → statement M
+days_between_spec =
     tie.close
     (tie.spec
     is-calendar-day-requires

@@ -18,10 +18,10 @@ returns c =
     let y = part-take s 4 at to (omega arith) in
     let m = take_part s at to 5 2 (at + 5) (at + 7) (omega arith) (omega arith) (omega arith) in
     let d = take_part s at to 8 2 (at + 8) (at + 10) (omega arith) (omega arith) (omega arith) in
-    rw (y, m, d, at-digits-value.digits_value.ensures, at-digits-value2.digits-value2.ensures, c.digits-value3.ensures)
+    rw (y, m, d, at-digits-value.digits_value.ensures, at-digits-value2.digits_value-2.ensures, c.digits_value-3.ensures)
 
-pub date-at-spec : {M : Type 1} → statement M
-date-at-spec =
+pub date_at_spec : {M : Type 1} → statement M
+date_at_spec =
     tie.close
     (tie.spec
     (λ c. omega arith)

@@ -15,24 +15,24 @@ sub-result : tie.Need-overflow-sub-result
 unfolding is_digit
 sub-result c =
     let at-is-digit = c.before in
-    let low = leb-true 48 at-is-digit.before.args.b (and_first _ _ (sym at-is-digit.is_digit.ensures ∙ c.if1.true)) in
+    let low = leb-true 48 at-is-digit.before.args.b (and_first _ _ (sym at-is-digit.is_digit.ensures ∙ c.if-is_digit.true)) in
     omega arith
 
-returns : tie.Need-returns
+returns : tie.Need-returns-then-is_digit
 unfolding digit is_digit
 returns c =
     let at-is-digit = c.before in
     let start = at-is-digit.before in
-    let d = sym at-is-digit.is_digit.ensures ∙ c.if1.true in
+    let d = sym at-is-digit.is_digit.ensures ∙ c.if-is_digit.true in
     let top = leb-true start.args.b 57 (and_second (leb 48 start.args.b) _ d) in
     (rw d, omega arith)
 
-returns-2 : tie.Need-returns-2
+returns-2 : tie.Need-returns-else-is_digit
 unfolding digit
-returns-2 c = (rw (sym c.before.is_digit.ensures ∙ c.if1.false), omega arith)
+returns-2 c = (rw (sym c.before.is_digit.ensures ∙ c.if-is_digit.false), omega arith)
 
-pub digit-value-spec : {M : Type 1} → statement M
-digit-value-spec =
+pub digit_value_spec : {M : Type 1} → statement M
+digit_value_spec =
     tie.close
     (tie.spec
     (λ c κs. search rules)

@@ -6,16 +6,16 @@ use Rattle.dates.specs.Reads.{fits}
 use Rattle.dates.proofs.parts.fits.Statement.{statement}
 use Rattle.dates.proofs.parts.fits.Tie as tie
 
-returns : tie.Need-returns
+returns : tie.Need-returns-then-shape-eq48
 unfolding fits
-returns c = rw (eq-eqb _ 48 c.before.if1.true) c.is_digit.ensures
+returns c = rw (eq-eqb _ 48 c.before.if-shape-eq48.true) c.is_digit.ensures
 
-returns-2 : tie.Need-returns-2
+returns-2 : tie.Need-returns-else-shape-eq48
 unfolding fits
-returns-2 c = rw (ne_eqb _ 48 c.if1.false)
+returns-2 c = rw (ne_eqb _ 48 c.if-shape-eq48.false)
 
-pub fits-spec : {M : Type 1} → statement M
-fits-spec =
+pub fits_spec : {M : Type 1} → statement M
+fits_spec =
     tie.close
     (tie.spec
     (λ c κs. search rules)

@@ -13,14 +13,14 @@ returns : tie.Need-returns
 unfolding word
 returns c =
     let start = c.before.before.before in (
-      c.has-shape.ensures,
+      c.has_shape.ensures,
       λ h.
-          let r : 10 ≤ start.args.to - start.args.at = shaped-room _ _ _ (word "0000-00-00") start.requires.1 (sym c.has-shape.ensures ∙ h) in
+          let r : 10 ≤ start.args.to - start.args.at = shaped-room _ _ _ (word "0000-00-00") start.requires.1 (sym c.has_shape.ensures ∙ h) in
           omega arith,
     )
 
-pub is-date-spec : {M : Type 1} → statement M
-is-date-spec =
+pub is_date_spec : {M : Type 1} → statement M
+is_date_spec =
     tie.close
     (tie.spec
     (λ c. search rules)

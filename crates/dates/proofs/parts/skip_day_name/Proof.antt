@@ -11,41 +11,41 @@ use Rattle.dates.proofs.Laws.Stamps.{day_name-none, day_name-mark, day_name-some
 use Rattle.dates.proofs.parts.skip_day_name.Statement.{statement}
 use Rattle.dates.proofs.parts.skip_day_name.Tie as tie
 
-returns : tie.Need-returns
+returns : tie.Need-returns-in_default
 unfolding after_day_name
 returns c =
-    let m = rw c.enum_told.given.1 at c.before.before.skip-gap.ensures in
+    let m = rw c.enum_told-1.given.1 at c.before.before.skip_gap.ensures in
     (rw m.is, omega arith, omega arith)
 
-run-end-requires : tie.Need-run-end-requires
+run-end-requires : tie.Need-run_end-end-requires
 run-end-requires c κs =
     let at_a = c.before in
-    let g = rw at_a.a.given.1 at at_a.before.before.skip-gap.ensures in
+    let g = rw at_a.a-1.given.1 at at_a.before.before.skip_gap.ensures in
     omega arith
 
-returns-2 : tie.Need-returns-2
+returns-2 : tie.Need-returns-then-end-a
 returns-2 c =
     let at-run-end = c.before in
     let at_a = at-run-end.before.before in
-    let g = rw at_a.a.given.1 at at_a.before.before.skip-gap.ensures in
-    (day_name-none _ _ _ _ _ g at-run-end.run-end.ensures (omega arith), omega arith, omega arith)
+    let g = rw at_a.a-1.given.1 at at_a.before.before.skip_gap.ensures in
+    (day_name-none _ _ _ _ _ g at-run-end.run_end-end.ensures (omega arith), omega arith, omega arith)
 
-begins-with-requires : tie.Need-begins-with-requires
+begins-with-requires : tie.Need-begins_with-requires
 begins-with-requires c κs =
     let at_a = c.before.before.before.before in
-    let g = rw at_a.a.given.1 at at_a.before.before.skip-gap.ensures in
+    let g = rw at_a.a-1.given.1 at at_a.before.before.skip_gap.ensures in
     omega arith
 
-returns-3 : tie.Need-returns-3
+returns-3 : tie.Need-returns-then-begins_with
 unfolding word
 returns-3 c =
     let at-begins-with = c.before in
     let at-run-end = at-begins-with.before.before.before in
     let at_a = at-run-end.before.before in
-    let g = rw at_a.a.given.1 at at_a.before.before.skip-gap.ensures in
-    (day_name-mark _ _ _ _ _ g at-run-end.run-end.ensures (sym at-begins-with.begins-with.ensures ∙ c.if2.true), omega arith, omega arith)
+    let g = rw at_a.a-1.given.1 at at_a.before.before.skip_gap.ensures in
+    (day_name-mark _ _ _ _ _ g at-run-end.run_end-end.ensures (sym at-begins-with.begins_with.ensures ∙ c.if-begins_with.true), omega arith, omega arith)
 
-returns-4 : tie.Need-returns-4
+returns-4 : tie.Need-returns
 unfolding word
 returns-4 c =
     let at-begins-with = c.before in
@@ -54,12 +54,12 @@ returns-4 c =
     let at_a = at-run-end.before.before in
     let at-skip-gap = at_a.before.before in
     let start = at-skip-gap.before.before in
-    let g = rw at_a.a.given.1 at at-skip-gap.skip-gap.ensures in
-    let t = run-part-to _ _ _ is_day_name_byte g.within.1 start.requires.1 _ at-run-end.run-end.ensures in
-    (day_name-some _ _ _ _ _ g at-run-end.run-end.ensures (λ e. omega arith) (sym at-begins-with.begins-with.ensures ∙ c.if2.false), omega arith, t)
+    let g = rw at_a.a-1.given.1 at at-skip-gap.skip_gap.ensures in
+    let t = run-part-to _ _ _ is_day_name_byte g.within.1 start.requires.1 _ at-run-end.run_end-end.ensures in
+    (day_name-some _ _ _ _ _ g at-run-end.run_end-end.ensures (λ e. omega arith) (sym at-begins-with.begins_with.ensures ∙ c.if-begins_with.false), omega arith, t)
 
-pub skip-day-name-spec : {M : Type 1} → statement M
-skip-day-name-spec =
+pub skip_day_name_spec : {M : Type 1} → statement M
+skip_day_name_spec =
     tie.close
     (tie.spec
     (λ c κs. search rules)

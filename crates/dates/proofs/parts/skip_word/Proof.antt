@@ -11,19 +11,19 @@ add-t8 : tie.Need-overflow-add-t8
 add-t8 c =
     let at-begins-with = c.before in
     let start = at-begins-with.before.before.before in
-    let r = begins-room _ _ _ _ start.requires.1 (sym at-begins-with.begins-with.ensures ∙ c.if1.true) in omega arith
+    let r = begins-room _ _ _ _ start.requires.1 (sym at-begins-with.begins_with.ensures ∙ c.if-begins_with.true) in omega arith
 
-returns : tie.Need-returns
+returns : tie.Need-returns-then-begins_with
 returns c =
     let at-begins-with = c.before in
     let start = at-begins-with.before.before.before in
-    expect-some _ _ _ _ start.requires.0 start.requires.1 (sym at-begins-with.begins-with.ensures ∙ c.if1.true)
+    expect-some _ _ _ _ start.requires.0 start.requires.1 (sym at-begins-with.begins_with.ensures ∙ c.if-begins_with.true)
 
-returns-2 : tie.Need-returns-2
-returns-2 c = expect-none _ _ _ _ (sym c.before.begins-with.ensures ∙ c.if1.false)
+returns-2 : tie.Need-returns-else-begins_with
+returns-2 c = expect-none _ _ _ _ (sym c.before.begins_with.ensures ∙ c.if-begins_with.false)
 
-pub skip-word-spec : {M : Type 1} → statement M
-skip-word-spec =
+pub skip_word_spec : {M : Type 1} → statement M
+skip_word_spec =
     tie.close
     (tie.spec
     (λ c κs. search rules)

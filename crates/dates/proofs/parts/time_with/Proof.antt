@@ -18,10 +18,10 @@ returns c =
     let from = start.args.at + start.args.digits + 1 in
     let to = start.args.at + start.args.digits + 3 in
     let m = take_part s start.args.at start.args.to (start.args.digits + 1) 2 from to (omega arith) (omega arith) (omega arith) in
-    rw (h, m, at-digits-value.digits_value.ensures, c.digits-value2.ensures)
+    rw (h, m, at-digits-value.digits_value.ensures, c.digits_value-2.ensures)
 
-pub time-with-spec : {M : Type 1} → statement M
-time-with-spec =
+pub time_with_spec : {M : Type 1} → statement M
+time_with_spec =
     tie.close
     (tie.spec
     (λ c. omega arith)

@@ -11,27 +11,27 @@ use Rattle.dates.proofs.Laws.Reads.{begins-room}
 use Rattle.dates.proofs.planning.read_keyword.Statement.{statement}
 use Rattle.dates.proofs.planning.read_keyword.Tie as tie
 
-returns : tie.Need-returns
+returns : tie.Need-returns-then-begins_with
 unfolding keyword word
 returns c =
     let at-begins-with = c.before in
     let start = at-begins-with.before.before.before in
-    let p = sym at-begins-with.begins-with.ensures ∙ c.if1.true in
+    let p = sym at-begins-with.begins_with.ensures ∙ c.if-begins_with.true in
     let r : 7 ≤ start.args.to - start.args.at = begins-room _ _ _ (word "closed:") start.requires.1 p in
     (record { is = rw (p, part-drop); within = omega arith }, omega arith)
 
-returns-2 : tie.Need-returns-2
+returns-2 : tie.Need-returns-then-begins_with-2
 unfolding keyword word
 returns-2 c =
     let at-begins-with2 = c.before in
     let at-if1 = at-begins-with2.before.before in
     let at-begins-with = at-if1.before in
     let start = at-begins-with.before.before.before in
-    let p = sym at-begins-with2.begins-with2.ensures ∙ c.if2.true in
+    let p = sym at-begins-with2.begins_with-2.ensures ∙ c.if-begins_with-2.true in
     let r : 9 ≤ start.args.to - start.args.at = begins-room _ _ _ (word "deadline:") start.requires.1 p in
-    (record { is = rw (sym at-begins-with.begins-with.ensures ∙ at-if1.if1.false, p, part-drop); within = omega arith }, omega arith)
+    (record { is = rw (sym at-begins-with.begins_with.ensures ∙ at-if1.if-begins_with.false, p, part-drop); within = omega arith }, omega arith)
 
-returns-3 : tie.Need-returns-3
+returns-3 : tie.Need-returns-then-begins_with-3
 unfolding keyword word
 returns-3 c =
     let at-begins-with3 = c.before in
@@ -40,12 +40,12 @@ returns-3 c =
     let at-if1 = at-begins-with2.before.before in
     let at-begins-with = at-if1.before in
     let start = at-begins-with.before.before.before in
-    let p = sym at-begins-with3.begins-with3.ensures ∙ c.if3.true in
+    let p = sym at-begins-with3.begins_with-3.ensures ∙ c.if-begins_with-3.true in
     let r : 10 ≤ start.args.to - start.args.at = begins-room _ _ _ (word "scheduled:") start.requires.1 p in (
       record {
         is = rw (
-          sym at-begins-with.begins-with.ensures ∙ at-if1.if1.false,
-          sym at-begins-with2.begins-with2.ensures ∙ at-if2.if2.false,
+          sym at-begins-with.begins_with.ensures ∙ at-if1.if-begins_with.false,
+          sym at-begins-with2.begins_with-2.ensures ∙ at-if2.if-begins_with-2.false,
           p,
           part-drop,
         );
@@ -54,7 +54,7 @@ returns-3 c =
       omega arith,
     )
 
-returns-4 : tie.Need-returns-4
+returns-4 : tie.Need-returns
 unfolding keyword word
 returns-4 c =
     let at-begins-with3 = c.before in
@@ -63,17 +63,17 @@ returns-4 c =
     let at-if1 = at-begins-with2.before.before in (
       record {
         is = rw (
-          sym at-if1.before.begins-with.ensures ∙ at-if1.if1.false,
-          sym at-begins-with2.begins-with2.ensures ∙ at-if2.if2.false,
-          sym at-begins-with3.begins-with3.ensures ∙ c.if3.false,
+          sym at-if1.before.begins_with.ensures ∙ at-if1.if-begins_with.false,
+          sym at-begins-with2.begins_with-2.ensures ∙ at-if2.if-begins_with-2.false,
+          sym at-begins-with3.begins_with-3.ensures ∙ c.if-begins_with-3.false,
         );
         within = tt;
       },
       tt,
     )
 
-pub read-keyword-spec : {M : Type 1} → statement M
-read-keyword-spec =
+pub read_keyword_spec : {M : Type 1} → statement M
+read_keyword_spec =
     tie.close
     (tie.spec
     (λ c. search rules)

@@ -11,10 +11,10 @@ use Rattle.dates.proofs.planning.stamp_at.Tie as tie
 
 returns : tie.Need-returns
 unfolding stamp_in
-returns c = sym (ap (λ (x : Timestamp × List ℕ). x.0) c.read-timestamp.ensures.is)
+returns c = sym (ap (λ (x : Timestamp × List ℕ). x.0) c.read_timestamp-stamp.ensures.is)
 
-pub stamp-at-spec : {M : Type 1} → statement M
-stamp-at-spec =
+pub stamp_at_spec : {M : Type 1} → statement M
+stamp_at_spec =
     tie.close
     (tie.spec
     (λ c κs. search rules)

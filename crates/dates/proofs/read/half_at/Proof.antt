@@ -6,7 +6,7 @@ use Rattle.text.proofs.Laws.Parts.{part-drop}
 use Rattle.dates.proofs.read.half_at.Statement.{statement}
 use Rattle.dates.proofs.read.half_at.Tie as tie
 
-date-at-requires : tie.Need-date-at-requires
+date-at-requires : tie.Need-date_at-requires
 date-at-requires c κs =
     let start = c.before.before.before.before in
     start.requires
@@ -20,15 +20,15 @@ returns c =
     let s = start.args.text.now in
     let at = start.args.at in
     rw (
-      c.date-at.ensures,
+      c.date_at.ensures,
       part-drop s 10 at start.args.to,
-      at-skip-day-name.skip-day-name.ensures.0,
-      at-read-times.read-times.ensures.is,
-      at-read-repeater.read-repeater.ensures.is,
+      at-skip-day-name.skip_day_name-a.ensures.0,
+      at-read-times.read_times-times.ensures.is,
+      at-read-repeater.read_repeater-repeats.ensures.is,
     )
 
-pub half-at-spec : {M : Type 1} → statement M
-half-at-spec =
+pub half_at_spec : {M : Type 1} → statement M
+half_at_spec =
     tie.close
     (tie.spec
     (λ c. omega arith)

@@ -7,15 +7,15 @@ use Rattle.dates.specs.Stamps.{is_unit}
 use Rattle.dates.proofs.repeats.is_unit.Statement.{statement}
 use Rattle.dates.proofs.repeats.is_unit.Tie as tie
 
-returns : tie.Need-returns
+returns : tie.Need-returns-in-100
 unfolding is_unit
-returns c = on c.match.keys1 (λ e. rw e) (λ k. on k (λ e. rw e) (λ k. on k (λ e. rw e) (λ k. on k (λ e. rw e) (λ e. rw e))))
+returns c = on c.in-100.keys1 (λ e. rw e) (λ k. on k (λ e. rw e) (λ k. on k (λ e. rw e) (λ k. on k (λ e. rw e) (λ e. rw e))))
 
-returns-2 : tie.Need-returns-2
+returns-2 : tie.Need-returns-in_default
 unfolding is_unit
 returns-2 c =
     let start = c.before in
-    let no = c.match.rest.1 in
+    let no = c.in-100.rest.1 in
     let b = start.args.b in
     rw (
       ne_eqb b 100 (λ e. no (inl e)),
@@ -25,8 +25,8 @@ returns-2 c =
       ne_eqb b 121 (λ e. no (inr (inr (inr (inr e))))),
     )
 
-pub is-unit-spec : {M : Type 1} → statement M
-is-unit-spec =
+pub is_unit_spec : {M : Type 1} → statement M
+is_unit_spec =
     tie.close
     (tie.spec
     returns

@@ -15,56 +15,56 @@ use Rattle.dates.proofs.Laws.Reads.{after_run-part}
 use Rattle.dates.proofs.repeats.read_delay.Statement.{statement}
 use Rattle.dates.proofs.repeats.read_delay.Tie as tie
 
-returns : tie.Need-returns
+returns : tie.Need-returns-in_default
 unfolding delay
 returns c =
-    let no = rw c.enum_told.given.1 at c.before.before.skip-gap.ensures in
+    let no = rw c.enum_told-1.given.1 at c.before.before.skip_gap.ensures in
     record { is = rw no.is; within = tt }
 
-run-end-requires : tie.Need-run-end-requires
+run-end-requires : tie.Need-run_end-b-requires
 run-end-requires c κs =
     let at_a = c.before in
-    let g = rw at_a.a.given.1 at at_a.before.before.skip-gap.ensures in
+    let g = rw at_a.a-1.given.1 at at_a.before.before.skip_gap.ensures in
     omega arith
 
-returns-2 : tie.Need-returns-2
+returns-2 : tie.Need-returns-then-b-a
 unfolding delay
 returns-2 c =
     let at-run-end = c.before in
     let at_a = at-run-end.before.before in
     let at-skip-gap = at_a.before.before in
     let start = at-skip-gap.before.before in
-    let g = rw at_a.a.given.1 at at-skip-gap.skip-gap.ensures in
+    let g = rw at_a.a-1.given.1 at at-skip-gap.skip_gap.ensures in
     let s = start.args.text.now in
     let to = start.args.to in
-    let a = at_a.a.given.0.0 in
-    let n : length (run is_hyphen (part s a to)) ≡ at-run-end.run-end.result - a = omega arith in
-    record { is = rw (g.is, n, range-below 1 2 (at-run-end.run-end.result - a) (omega arith)); within = tt }
+    let a = at_a.a-1.given.0.0 in
+    let n : length (run is_hyphen (part s a to)) ≡ at-run-end.run_end-b.result - a = omega arith in
+    record { is = rw (g.is, n, range-below 1 2 (at-run-end.run_end-b.result - a) (omega arith)); within = tt }
 
-returns-3 : tie.Need-returns-3
+returns-3 : tie.Need-returns-then-b-a-gt2
 unfolding delay
 returns-3 c =
     let at-run-end = c.before.before in
     let at_a = at-run-end.before.before in
     let at-skip-gap = at_a.before.before in
     let start = at-skip-gap.before.before in
-    let g = rw at_a.a.given.1 at at-skip-gap.skip-gap.ensures in
+    let g = rw at_a.a-1.given.1 at at-skip-gap.skip_gap.ensures in
     let s = start.args.text.now in
     let to = start.args.to in
-    let a = at_a.a.given.0.0 in
-    let n : length (run is_hyphen (part s a to)) ≡ at-run-end.run-end.result - a = omega arith in
-    record { is = rw (g.is, n, range-above 1 2 (at-run-end.run-end.result - a) (omega arith) (omega arith)); within = tt }
+    let a = at_a.a-1.given.0.0 in
+    let n : length (run is_hyphen (part s a to)) ≡ at-run-end.run_end-b.result - a = omega arith in
+    record { is = rw (g.is, n, range-above 1 2 (at-run-end.run_end-b.result - a) (omega arith) (omega arith)); within = tt }
 
-read-interval-requires : tie.Need-read-interval-requires
+read-interval-requires : tie.Need-read_interval-requires
 read-interval-requires c κs =
     let at-run-end = c.before.before in
     let at_a = at-run-end.before.before in
     let at-skip-gap = at_a.before.before in
     let start = at-skip-gap.before.before in
-    let g = rw at_a.a.given.1 at at-skip-gap.skip-gap.ensures in
-    let t = run-part-to _ _ _ is_hyphen g.within.1 start.requires.1 _ at-run-end.run-end.ensures in omega arith
+    let g = rw at_a.a-1.given.1 at at-skip-gap.skip_gap.ensures in
+    let t = run-part-to _ _ _ is_hyphen g.within.1 start.requires.1 _ at-run-end.run_end-b.ensures in omega arith
 
-returns-4 : tie.Need-returns-4
+returns-4 : tie.Need-returns-in_default-read_interval
 unfolding delay
 returns-4 c =
     let at-read-interval = c.before.before in
@@ -73,15 +73,15 @@ returns-4 c =
     let at_a = at-run-end.before.before in
     let at-skip-gap = at_a.before.before in
     let start = at-skip-gap.before.before in
-    let g = rw at_a.a.given.1 at at-skip-gap.skip-gap.ensures in
+    let g = rw at_a.a-1.given.1 at at-skip-gap.skip_gap.ensures in
     let s = start.args.text.now in
     let to = start.args.to in
-    let a = at_a.a.given.0.0 in
-    let n : length (run is_hyphen (part s a to)) ≡ at-run-end.run-end.result - a = omega arith in
-    let no = rw c.enum-told2.given.1 at at-read-interval.read-interval.ensures in
-    record { is = rw (g.is, n, range-in 1 2 (at-run-end.run-end.result - a) (omega arith) (omega arith), after_run-part s a to is_hyphen _ at-run-end.run-end.ensures, no.is); within = tt }
+    let a = at_a.a-1.given.0.0 in
+    let n : length (run is_hyphen (part s a to)) ≡ at-run-end.run_end-b.result - a = omega arith in
+    let no = rw c.enum_told-in_default-read_interval-1.given.1 at at-read-interval.read_interval.ensures in
+    record { is = rw (g.is, n, range-in 1 2 (at-run-end.run_end-b.result - a) (omega arith) (omega arith), after_run-part s a to is_hyphen _ at-run-end.run_end-b.ensures, no.is); within = tt }
 
-returns-5 : tie.Need-returns-5
+returns-5 : tie.Need-returns
 unfolding delay
 returns-5 c =
     let at-by = c.before in
@@ -91,19 +91,19 @@ returns-5 c =
     let at_a = at-run-end.before.before in
     let at-skip-gap = at_a.before.before in
     let start = at-skip-gap.before.before in
-    let g = rw at_a.a.given.1 at at-skip-gap.skip-gap.ensures in
+    let g = rw at_a.a-1.given.1 at at-skip-gap.skip_gap.ensures in
     let s = start.args.text.now in
     let to = start.args.to in
-    let a = at_a.a.given.0.0 in
-    let n : length (run is_hyphen (part s a to)) ≡ at-run-end.run-end.result - a = omega arith in
-    let i = rw at-by.by.given.1 at at-read-interval.read-interval.ensures in
+    let a = at_a.a-1.given.0.0 in
+    let n : length (run is_hyphen (part s a to)) ≡ at-run-end.run_end-b.result - a = omega arith in
+    let i = rw at-by.by-1.given.1 at at-read-interval.read_interval.ensures in
     record {
-      is = rw (g.is, n, range-in 1 2 (at-run-end.run-end.result - a) (omega arith) (omega arith), after_run-part s a to is_hyphen _ at-run-end.run-end.ensures, i.is);
+      is = rw (g.is, n, range-in 1 2 (at-run-end.run_end-b.result - a) (omega arith) (omega arith), after_run-part s a to is_hyphen _ at-run-end.run_end-b.ensures, i.is);
       within = omega arith;
     }
 
-pub read-delay-spec : {M : Type 1} → statement M
-read-delay-spec =
+pub read_delay_spec : {M : Type 1} → statement M
+read_delay_spec =
     tie.close
     (tie.spec
     (λ c κs. search rules)

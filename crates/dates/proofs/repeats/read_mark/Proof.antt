@@ -11,27 +11,27 @@ use Rattle.dates.proofs.Laws.Reads.{begins-room}
 use Rattle.dates.proofs.repeats.read_mark.Statement.{statement}
 use Rattle.dates.proofs.repeats.read_mark.Tie as tie
 
-returns : tie.Need-returns
+returns : tie.Need-returns-then-begins_with
 unfolding mark word
 returns c =
     let at-begins-with = c.before in
     let start = at-begins-with.before.before.before in
-    let p = sym at-begins-with.begins-with.ensures ∙ c.if1.true in
+    let p = sym at-begins-with.begins_with.ensures ∙ c.if-begins_with.true in
     let r : 2 ≤ start.args.to - start.args.at = begins-room _ _ _ (word "++") start.requires.1 p in
     record { is = rw (p, part-drop); within = omega arith }
 
-returns-2 : tie.Need-returns-2
+returns-2 : tie.Need-returns-then-begins_with-2
 unfolding mark word
 returns-2 c =
     let at-begins-with2 = c.before in
     let at-if1 = at-begins-with2.before.before in
     let at-begins-with = at-if1.before in
     let start = at-begins-with.before.before.before in
-    let p = sym at-begins-with2.begins-with2.ensures ∙ c.if2.true in
+    let p = sym at-begins-with2.begins_with-2.ensures ∙ c.if-begins_with-2.true in
     let r : 1 ≤ start.args.to - start.args.at = begins-room _ _ _ (word "+") start.requires.1 p in
-    record { is = rw (sym at-begins-with.begins-with.ensures ∙ at-if1.if1.false, p, part-drop); within = omega arith }
+    record { is = rw (sym at-begins-with.begins_with.ensures ∙ at-if1.if-begins_with.false, p, part-drop); within = omega arith }
 
-returns-3 : tie.Need-returns-3
+returns-3 : tie.Need-returns-then-begins_with-3
 unfolding mark word
 returns-3 c =
     let at-begins-with3 = c.before in
@@ -40,19 +40,19 @@ returns-3 c =
     let at-if1 = at-begins-with2.before.before in
     let at-begins-with = at-if1.before in
     let start = at-begins-with.before.before.before in
-    let p = sym at-begins-with3.begins-with3.ensures ∙ c.if3.true in
+    let p = sym at-begins-with3.begins_with-3.ensures ∙ c.if-begins_with-3.true in
     let r : 2 ≤ start.args.to - start.args.at = begins-room _ _ _ (word ".+") start.requires.1 p in
     record {
       is = rw (
-        sym at-begins-with.begins-with.ensures ∙ at-if1.if1.false,
-        sym at-begins-with2.begins-with2.ensures ∙ at-if2.if2.false,
+        sym at-begins-with.begins_with.ensures ∙ at-if1.if-begins_with.false,
+        sym at-begins-with2.begins_with-2.ensures ∙ at-if2.if-begins_with-2.false,
         p,
         part-drop,
       );
       within = omega arith;
     }
 
-returns-4 : tie.Need-returns-4
+returns-4 : tie.Need-returns
 unfolding mark word
 returns-4 c =
     let at-begins-with3 = c.before in
@@ -61,15 +61,15 @@ returns-4 c =
     let at-if1 = at-begins-with2.before.before in
     record {
       is = rw (
-        sym at-if1.before.begins-with.ensures ∙ at-if1.if1.false,
-        sym at-begins-with2.begins-with2.ensures ∙ at-if2.if2.false,
-        sym at-begins-with3.begins-with3.ensures ∙ c.if3.false,
+        sym at-if1.before.begins_with.ensures ∙ at-if1.if-begins_with.false,
+        sym at-begins-with2.begins_with-2.ensures ∙ at-if2.if-begins_with-2.false,
+        sym at-begins-with3.begins_with-3.ensures ∙ c.if-begins_with-3.false,
       );
       within = tt;
     }
 
-pub read-mark-spec : {M : Type 1} → statement M
-read-mark-spec =
+pub read_mark_spec : {M : Type 1} → statement M
+read_mark_spec =
     tie.close
     (tie.spec
     (λ c. search rules)

@@ -8,12 +8,12 @@ use Rattle.dates.specs.Stamps.{second_half, bracketed}
 use Rattle.dates.proofs.span.skip_bracketed.Statement.{statement}
 use Rattle.dates.proofs.span.skip_bracketed.Tie as tie
 
-returns : tie.Need-returns
+returns : tie.Need-returns-in_default
 unfolding bracketed
 returns c =
     let at-skip-half = c.before.before in
     let start = at-skip-half.before.before.before.before in
-    let no = rw c.enum_told.given.1 at at-skip-half.skip-half.ensures in
+    let no = rw c.enum_told-1.given.1 at at-skip-half.skip_half.ensures in
     record {
       takes = λ b. record {
         is = rw (
@@ -26,19 +26,19 @@ returns c =
       dates = tt;
     }
 
-returns-2 : tie.Need-returns-2
+returns-2 : tie.Need-returns-then-range
 unfolding bracketed second_half
 returns-2 c =
     let at_a = c.before.before in
     let at-skip-half = at_a.before.before in
     let start = at-skip-half.before.before.before.before in
-    let f = rw at_a.a.given.1 at at-skip-half.skip-half.ensures in
+    let f = rw at_a.a-1.given.1 at at-skip-half.skip_half.ensures in
     record {
       takes = λ b. record {
         is = rw (
           part-drop start.args.text.now 1 start.args.at start.args.to,
           f.0.is,
-          sym f.1.0 ∙ c.if1.true,
+          sym f.1.0 ∙ c.if-range.true,
         );
         from = omega arith;
         to = omega arith;
@@ -46,13 +46,13 @@ returns-2 c =
       dates = omega arith;
     }
 
-skip-word-requires : tie.Need-skip-word-requires
+skip-word-requires : tie.Need-skip_word-requires
 skip-word-requires c κs =
     let at_a = c.before.before in
-    let f = rw at_a.a.given.1 at at_a.before.before.skip-half.ensures in
+    let f = rw at_a.a-1.given.1 at at_a.before.before.skip_half.ensures in
     omega arith
 
-returns-3 : tie.Need-returns-3
+returns-3 : tie.Need-returns-in_default-skip_word
 unfolding bracketed second_half
 returns-3 c =
     let at-skip-word = c.before.before in
@@ -60,9 +60,9 @@ returns-3 c =
     let at_a = at-if1.before.before in
     let at-skip-half = at_a.before.before in
     let start = at-skip-half.before.before.before.before in
-    let f = rw at_a.a.given.1 at at-skip-half.skip-half.ensures in
-    let range = sym f.1.0 ∙ at-if1.if1.false in
-    let no = rw c.enum-told2.given.1 at at-skip-word.skip-word.ensures in
+    let f = rw at_a.a-1.given.1 at at-skip-half.skip_half.ensures in
+    let range = sym f.1.0 ∙ at-if1.if-range.false in
+    let no = rw c.enum_told-in_default-skip_word-1.given.1 at at-skip-word.skip_word.ensures in
     record {
       takes = λ b. record {
         is = rw (
@@ -77,7 +77,7 @@ returns-3 c =
       dates = omega arith;
     }
 
-skip-half-requires-2 : tie.Need-skip-half-requires-2
+skip-half-requires-2 : tie.Need-skip_half-requires-2
 skip-half-requires-2 c κs =
     let at_b = c.before in
     let at-skip-word = at_b.before.before in
@@ -85,11 +85,11 @@ skip-half-requires-2 c κs =
     let at-skip-half = at_a.before.before in
     let start = at-skip-half.before.before.before.before in
     let pre = start.requires in
-    let f = rw at_a.a.given.1 at at-skip-half.skip-half.ensures in
-    let w = rw at_b.b.given.1 at at-skip-word.skip-word.ensures in
+    let f = rw at_a.a-1.given.1 at at-skip-half.skip_half.ensures in
+    let w = rw at_b.b-1.given.1 at at-skip-word.skip_word.ensures in
     omega arith
 
-returns-4 : tie.Need-returns-4
+returns-4 : tie.Need-returns-in_default-skip_half
 unfolding bracketed second_half
 returns-4 c =
     let at-skip-half2 = c.before.before in
@@ -100,10 +100,10 @@ returns-4 c =
     let at-skip-half = at_a.before.before in
     let start = at-skip-half.before.before.before.before in
     let pre = start.requires in
-    let f = rw at_a.a.given.1 at at-skip-half.skip-half.ensures in
-    let range = sym f.1.0 ∙ at-if1.if1.false in
-    let w = rw at_b.b.given.1 at at-skip-word.skip-word.ensures in
-    let no = rw c.enum-told3.given.1 at at-skip-half2.skip-half2.ensures in
+    let f = rw at_a.a-1.given.1 at at-skip-half.skip_half.ensures in
+    let range = sym f.1.0 ∙ at-if1.if-range.false in
+    let w = rw at_b.b-1.given.1 at at-skip-word.skip_word.ensures in
+    let no = rw c.enum_told-in_default-skip_half-1.given.1 at at-skip-half2.skip_half-2.ensures in
     record {
       takes = λ b. record {
         is = rw (
@@ -119,7 +119,7 @@ returns-4 c =
       dates = omega arith;
     }
 
-returns-5 : tie.Need-returns-5
+returns-5 : tie.Need-returns-then-second_range
 unfolding bracketed second_half
 returns-5 c =
     let at-end = c.before.before in
@@ -131,10 +131,10 @@ returns-5 c =
     let at-skip-half = at_a.before.before in
     let start = at-skip-half.before.before.before.before in
     let pre = start.requires in
-    let f = rw at_a.a.given.1 at at-skip-half.skip-half.ensures in
-    let range = sym f.1.0 ∙ at-if1.if1.false in
-    let w = rw at_b.b.given.1 at at-skip-word.skip-word.ensures in
-    let g = rw at-end.end.given.1 at at-skip-half2.skip-half2.ensures in
+    let f = rw at_a.a-1.given.1 at at-skip-half.skip_half.ensures in
+    let range = sym f.1.0 ∙ at-if1.if-range.false in
+    let w = rw at_b.b-1.given.1 at at-skip-word.skip_word.ensures in
+    let g = rw at-end.end-1.given.1 at at-skip-half2.skip_half-2.ensures in
     record {
       takes = λ b. record {
         is = rw (
@@ -143,7 +143,7 @@ returns-5 c =
           range,
           w.is,
           g.0.is,
-          sym g.1.0 ∙ c.if2.true,
+          sym g.1.0 ∙ c.if-second_range.true,
         );
         from = omega arith;
         to = omega arith;
@@ -151,7 +151,7 @@ returns-5 c =
       dates = omega arith;
     }
 
-returns-6 : tie.Need-returns-6
+returns-6 : tie.Need-returns-else-second_range
 unfolding bracketed second_half
 returns-6 c =
     let at-end = c.before.before in
@@ -163,10 +163,10 @@ returns-6 c =
     let at-skip-half = at_a.before.before in
     let start = at-skip-half.before.before.before.before in
     let pre = start.requires in
-    let f = rw at_a.a.given.1 at at-skip-half.skip-half.ensures in
-    let range = sym f.1.0 ∙ at-if1.if1.false in
-    let w = rw at_b.b.given.1 at at-skip-word.skip-word.ensures in
-    let g = rw at-end.end.given.1 at at-skip-half2.skip-half2.ensures in
+    let f = rw at_a.a-1.given.1 at at-skip-half.skip_half.ensures in
+    let range = sym f.1.0 ∙ at-if1.if-range.false in
+    let w = rw at_b.b-1.given.1 at at-skip-word.skip_word.ensures in
+    let g = rw at-end.end-1.given.1 at at-skip-half2.skip_half-2.ensures in
     record {
       takes = λ b. record {
         is = rw (
@@ -175,7 +175,7 @@ returns-6 c =
           range,
           w.is,
           g.0.is,
-          sym g.1.0 ∙ c.if2.false,
+          sym g.1.0 ∙ c.if-second_range.false,
         );
         from = omega arith;
         to = omega arith;
@@ -183,8 +183,8 @@ returns-6 c =
       dates = omega arith;
     }
 
-pub skip-bracketed-spec : {M : Type 1} → statement M
-skip-bracketed-spec =
+pub skip_bracketed_spec : {M : Type 1} → statement M
+skip_bracketed_spec =
     tie.close
     (tie.spec
     (λ c. omega arith)

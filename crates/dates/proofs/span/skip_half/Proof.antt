@@ -11,18 +11,18 @@ use Rattle.dates.specs.Stamps.{date, after_day_name, half}
 use Rattle.dates.proofs.span.skip_half.Statement.{statement}
 use Rattle.dates.proofs.span.skip_half.Tie as tie
 
-returns : tie.Need-returns
+returns : tie.Need-returns-then-not-is_date
 unfolding half date
-returns c = (record { is = rw (sym c.before.is-date.ensures.0 ∙ not-true _ c.if1.true); within = tt }, tt)
+returns c = (record { is = rw (sym c.before.is_date.ensures.0 ∙ not-true _ c.if-not-is_date.true); within = tt }, tt)
 
-skip-day-name-requires : tie.Need-skip-day-name-requires
+skip-day-name-requires : tie.Need-skip_day_name-a-requires
 skip-day-name-requires c κs =
     let at-is-date = c.before in
-    let d = sym at-is-date.is-date.ensures.0 ∙ not-false _ c.if1.false in
-    let ten = at-is-date.is-date.ensures.1 (not-false _ c.if1.false) in
+    let d = sym at-is-date.is_date.ensures.0 ∙ not-false _ c.if-not-is_date.false in
+    let ten = at-is-date.is_date.ensures.1 (not-false _ c.if-not-is_date.false) in
     omega arith
 
-returns-2 : tie.Need-returns-2
+returns-2 : tie.Need-returns-in_default
 unfolding half date
 returns-2 c =
     let at-skip-word = c.before.before in
@@ -34,17 +34,17 @@ returns-2 c =
     let start = at-is-date.before.before.before in
     let s = start.args.text.now in
     let to = start.args.to in
-    let name : after_day_name (part s (start.args.at + 10) to) ≡ part s at-skip-day-name.skip-day-name.result to = at-skip-day-name.skip-day-name.ensures.0 in
-    let d = sym at-is-date.is-date.ensures.0 ∙ not-false _ at-if1.if1.false in
-    let ten = at-is-date.is-date.ensures.1 (not-false _ at-if1.if1.false) in
-    let no = rw c.enum_told.given.1 at at-skip-word.skip-word.ensures in (
+    let name : after_day_name (part s (start.args.at + 10) to) ≡ part s at-skip-day-name.skip_day_name-a.result to = at-skip-day-name.skip_day_name-a.ensures.0 in
+    let d = sym at-is-date.is_date.ensures.0 ∙ not-false _ at-if1.if-not-is_date.false in
+    let ten = at-is-date.is_date.ensures.1 (not-false _ at-if1.if-not-is_date.false) in
+    let no = rw c.enum_told-1.given.1 at at-skip-word.skip_word.ensures in (
       record {
         is = rw (
           d,
           part-drop s 10 start.args.at to,
           name,
-          at-read-times.read-times.ensures.is,
-          at-read-repeater.read-repeater.ensures.is,
+          at-read-times.read_times-times.ensures.is,
+          at-read-repeater.read_repeater-repeats.ensures.is,
           no.is,
         );
         within = tt;
@@ -52,7 +52,7 @@ returns-2 c =
       tt,
     )
 
-returns-3 : tie.Need-returns-3
+returns-3 : tie.Need-returns-in-Nothing
 unfolding half date
 returns-3 c =
     let at-end = c.before.before.before in
@@ -65,17 +65,17 @@ returns-3 c =
     let start = at-is-date.before.before.before in
     let s = start.args.text.now in
     let to = start.args.to in
-    let name : after_day_name (part s (start.args.at + 10) to) ≡ part s at-skip-day-name.skip-day-name.result to = at-skip-day-name.skip-day-name.ensures.0 in
-    let d = sym at-is-date.is-date.ensures.0 ∙ not-false _ at-if1.if1.false in
-    let ten = at-is-date.is-date.ensures.1 (not-false _ at-if1.if1.false) in
-    let w = rw at-end.end.given.1 at at-skip-word.skip-word.ensures in (
+    let name : after_day_name (part s (start.args.at + 10) to) ≡ part s at-skip-day-name.skip_day_name-a.result to = at-skip-day-name.skip_day_name-a.ensures.0 in
+    let d = sym at-is-date.is_date.ensures.0 ∙ not-false _ at-if1.if-not-is_date.false in
+    let ten = at-is-date.is_date.ensures.1 (not-false _ at-if1.if-not-is_date.false) in
+    let w = rw at-end.end-1.given.1 at at-skip-word.skip_word.ensures in (
       record {
         is = rw (
           d,
           part-drop s 10 start.args.at to,
           name,
-          at-read-times.read-times.ensures.is,
-          at-read-repeater.read-repeater.ensures.is,
+          at-read-times.read_times-times.ensures.is,
+          at-read-repeater.read_repeater-repeats.ensures.is,
           w.is,
         );
         within = omega arith;
@@ -84,14 +84,14 @@ returns-3 c =
         rw (
           part-drop s 10 start.args.at to,
           name,
-          at-read-times.read-times.ensures.is,
-          c.enum-told2.given.1,
+          at-read-times.read_times-times.ensures.is,
+          c.enum_told-in-Nothing-1.given.1,
         ),
         omega arith,
       ),
     )
 
-returns-4 : tie.Need-returns-4
+returns-4 : tie.Need-returns-in-At-until
 unfolding half date
 returns-4 c =
     let at-end = c.before.before.before in
@@ -104,17 +104,17 @@ returns-4 c =
     let start = at-is-date.before.before.before in
     let s = start.args.text.now in
     let to = start.args.to in
-    let name : after_day_name (part s (start.args.at + 10) to) ≡ part s at-skip-day-name.skip-day-name.result to = at-skip-day-name.skip-day-name.ensures.0 in
-    let d = sym at-is-date.is-date.ensures.0 ∙ not-false _ at-if1.if1.false in
-    let ten = at-is-date.is-date.ensures.1 (not-false _ at-if1.if1.false) in
-    let w = rw at-end.end.given.1 at at-skip-word.skip-word.ensures in (
+    let name : after_day_name (part s (start.args.at + 10) to) ≡ part s at-skip-day-name.skip_day_name-a.result to = at-skip-day-name.skip_day_name-a.ensures.0 in
+    let d = sym at-is-date.is_date.ensures.0 ∙ not-false _ at-if1.if-not-is_date.false in
+    let ten = at-is-date.is_date.ensures.1 (not-false _ at-if1.if-not-is_date.false) in
+    let w = rw at-end.end-1.given.1 at at-skip-word.skip_word.ensures in (
       record {
         is = rw (
           d,
           part-drop s 10 start.args.at to,
           name,
-          at-read-times.read-times.ensures.is,
-          at-read-repeater.read-repeater.ensures.is,
+          at-read-times.read_times-times.ensures.is,
+          at-read-repeater.read_repeater-repeats.ensures.is,
           w.is,
         );
         within = omega arith;
@@ -123,15 +123,15 @@ returns-4 c =
         rw (
           part-drop s 10 start.args.at to,
           name,
-          at-read-times.read-times.ensures.is,
-          c.enum-told3.given.1,
+          at-read-times.read_times-times.ensures.is,
+          c.enum_told-in-At-until-1.given.1,
         ),
         omega arith,
       ),
     )
 
-pub skip-half-spec : {M : Type 1} → statement M
-skip-half-spec =
+pub skip_half_spec : {M : Type 1} → statement M
+skip_half_spec =
     tie.close
     (tie.spec
     (λ c κs. search rules)

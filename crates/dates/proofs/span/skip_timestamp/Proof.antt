@@ -12,60 +12,60 @@ use Rattle.dates.proofs.Laws.Stamps.{span-stamp}
 use Rattle.dates.proofs.span.skip_timestamp.Statement.{statement}
 use Rattle.dates.proofs.span.skip_timestamp.Tie as tie
 
-skip-bracketed-requires : tie.Need-skip-bracketed-requires
+skip-bracketed-requires : tie.Need-skip_bracketed-requires
 unfolding word
 skip-bracketed-requires c κs =
     let at-if1 = c.before.before in
     let at-begins-with = at-if1.before in
     let start = at-begins-with.before.before.before in
-    let p = sym at-begins-with.begins-with.ensures ∙ at-if1.if1.true in
+    let p = sym at-begins-with.begins_with.ensures ∙ at-if1.if-begins_with.true in
     let r : 1 ≤ start.args.to - start.args.at = begins-room _ _ _ (word "<") start.requires.1 p in
     omega arith
 
-returns : tie.Need-returns
+returns : tie.Need-returns-then-begins_with
 unfolding timestamp word
 returns c =
     let at-skip-bracketed = c.before in
     let at-if1 = at-skip-bracketed.before.before.before in
-    rw c.span-end.ensures (span-stamp _ _ _ Active _ _ (rw (sym at-if1.before.begins-with.ensures ∙ at-if1.if1.true)) _ at-skip-bracketed.skip-bracketed.ensures)
+    rw c.span_end.ensures (span-stamp _ _ _ Active _ _ (rw (sym at-if1.before.begins_with.ensures ∙ at-if1.if-begins_with.true)) _ at-skip-bracketed.skip_bracketed.ensures)
 
-skip-bracketed-requires-2 : tie.Need-skip-bracketed-requires-2
+skip-bracketed-requires-2 : tie.Need-skip_bracketed-requires-then-begins_with-2
 unfolding word
 skip-bracketed-requires-2 c κs =
     let at-if2 = c.before.before in
     let at-begins-with2 = at-if2.before in
     let start = at-begins-with2.before.before.before.before.before.before in
-    let p = sym at-begins-with2.begins-with2.ensures ∙ at-if2.if2.true in
+    let p = sym at-begins-with2.begins_with-2.ensures ∙ at-if2.if-begins_with-2.true in
     let r : 1 ≤ start.args.to - start.args.at = begins-room _ _ _ (word "[") start.requires.1 p in
     omega arith
 
-returns-2 : tie.Need-returns-2
+returns-2 : tie.Need-returns-then-begins_with-2
 unfolding timestamp word
 returns-2 c =
     let at-skip-bracketed2 = c.before in
     let at-if2 = at-skip-bracketed2.before.before.before in
     let at-begins-with2 = at-if2.before in
     let at-if1 = at-begins-with2.before.before in
-    rw c.span-end2.ensures (span-stamp _ _ _ Inactive _ _ (rw (
-      sym at-if1.before.begins-with.ensures ∙ at-if1.if1.false,
-      sym at-begins-with2.begins-with2.ensures ∙ at-if2.if2.true,
-    )) _ at-skip-bracketed2.skip-bracketed2.ensures)
+    rw c.span_end-then-begins_with-2.ensures (span-stamp _ _ _ Inactive _ _ (rw (
+      sym at-if1.before.begins_with.ensures ∙ at-if1.if-begins_with.false,
+      sym at-begins-with2.begins_with-2.ensures ∙ at-if2.if-begins_with-2.true,
+    )) _ at-skip-bracketed2.skip_bracketed-then-begins_with-2.ensures)
 
-returns-3 : tie.Need-returns-3
+returns-3 : tie.Need-returns
 unfolding stamp timestamp word
 returns-3 c =
     let at-begins-with2 = c.before in
     let at-if1 = at-begins-with2.before.before in
     record {
       is = rw (
-        sym at-if1.before.begins-with.ensures ∙ at-if1.if1.false,
-        sym at-begins-with2.begins-with2.ensures ∙ c.if2.false,
+        sym at-if1.before.begins_with.ensures ∙ at-if1.if-begins_with.false,
+        sym at-begins-with2.begins_with-2.ensures ∙ c.if-begins_with-2.false,
       );
       within = tt;
     }
 
-pub skip-timestamp-spec : {M : Type 1} → statement M
-skip-timestamp-spec =
+pub skip_timestamp_spec : {M : Type 1} → statement M
+skip_timestamp_spec =
     tie.close
     (tie.spec
     (λ c. search rules)

@@ -5,13 +5,13 @@ use Rattle.intake.specs.Book.{added_to}
 use Rattle.intake.proofs.book.added_size.Statement.{statement}
 use Rattle.intake.proofs.book.added_size.Tie as tie
 
-returns : tie.Need-returns
+returns : tie.Need-returns-then-ended
 unfolding added_to
-returns c = let size = c.before.sheet-size.ensures in rw c.if1.true (size.0, omega (arith, size.1))
+returns c = let size = c.before.sheet_size-size.ensures in rw c.if-ended.true (size.0, omega (arith, size.1))
 
-returns-2 : tie.Need-returns-2
+returns-2 : tie.Need-returns-else-ended
 unfolding added_to
-returns-2 c = let size = c.before.sheet-size.ensures in rw c.if1.false (omega (arith, size.0), omega (arith, size.1))
+returns-2 c = let size = c.before.sheet_size-size.ensures in rw c.if-ended.false (omega (arith, size.0), omega (arith, size.1))
 
-pub added-size-spec : {M : Type 1} → statement M
-added-size-spec = tie.close (tie.spec (λ c κs. search rules) (λ c. search rules) returns returns-2)
+pub added_size_spec : {M : Type 1} → statement M
+added_size_spec = tie.close (tie.spec (λ c κs. search rules) (λ c. search rules) returns returns-2)

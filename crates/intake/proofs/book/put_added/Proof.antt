@@ -12,46 +12,46 @@ use Rattle.intake.specs.Book.{added_to}
 use Rattle.intake.proofs.book.put_added.Statement.{statement}
 use Rattle.intake.proofs.book.put_added.Tie as tie
 
-put-sheet-requires : tie.Need-put-sheet-requires
+put-sheet-requires : tie.Need-put_sheet-requires
 unfolding added_to
-put-sheet-requires c κs = let p = c.before.before.before.before.requires in (p.0, rw c.before.if1.true at p.1)
+put-sheet-requires c κs = let p = c.before.before.before.before.requires in (p.0, rw c.before.if-ended.true at p.1)
 
 -- There is room for the byte 10 and the sheet after it.
-room : (c : tie.Else1) → let a = c.before.before.before.args in
-    length (sheet (order_at a.order.now a.layout)) < length a.free.now
+room : (c : tie.Else-ended) → let a = c.before.before.before.args in
+    length (sheet (order_at a.order.now a.layout)) < length a.free-1.now
 unfolding added_to
-room c = let h = rw c.if1.false at c.before.before.before.requires.1 in omega (arith, h)
+room c = let h = rw c.if-ended.false at c.before.before.before.requires.1 in omega (arith, h)
 
-first : (c : tie.Else1) → 1 ≤ length (set c.before.before.before.args.free.now 0 10)
-first c = omega (arith, room c, length-set c.before.before.before.args.free.now 0 10)
+first : (c : tie.Else-ended) → 1 ≤ length (set c.before.before.before.args.free-1.now 0 10)
+first c = omega (arith, room c, length-set c.before.before.before.args.free-1.now 0 10)
 
-put-sheet-requires-2 : tie.Need-put-sheet-requires-2
+put-sheet-requires-2 : tie.Need-put_sheet-requires-else-ended
 put-sheet-requires-2 c κs =
     let start = c.before.before.before.before in
-    (start.requires.0, omega (arith, room c.before, length-set start.args.free.now 0 10, c.put-sheet-arg2.given.1))
+    (start.requires.0, omega (arith, room c.before, length-set start.args.free-1.now 0 10, c.put_sheet-arg-else-ended-1.given.1))
 
-returns : tie.Need-returns
+returns : tie.Need-returns-then-ended
 unfolding added_to
-returns c = rw c.before.before.before.before.if1.true c.before.before.put-sheet.ensures.output
+returns c = rw c.before.before.before.before.if-ended.true c.before.before.put_sheet.ensures.output
 
-same-length-2 : tie.Need-same-length-2
+same-length-2 : tie.Need-shape_of-free-else-ended
 same-length-2 c =
-    let free = c.before.before.before.before.before.before.before.args.free.now in
-    let put = c.before.before.put-sheet2 in
+    let free = c.before.before.before.before.before.before.before.args.free-1.now in
+    let put = c.before.before.put_sheet-else-ended in
     same_len_mid 1 (length (set free 0 10) - 1) (set free 0 10) put.new.1.1.0 put.auto.1.1.0 ∙ length-set free 0 10
 
-returns-2 : tie.Need-returns-2
+returns-2 : tie.Need-returns-else-ended
 unfolding added_to
 returns-2 c =
     let at-put = c.before.before in
-    let free = at-put.before.before.before.before.before.args.free.now in
+    let free = at-put.before.before.before.before.before.args.free-1.now in
     let some = room at-put.before.before in
-    rw at-put.before.before.if1.false
-    (ap (put_mid 1 (length (set free 0 10) - 1) (set free 0 10)) at-put.put-sheet2.ensures.output
+    rw at-put.before.before.if-ended.false
+    (ap (put_mid 1 (length (set free 0 10) - 1) (set free 0 10)) at-put.put_sheet-else-ended.ensures.output
     ∙ laid-lent (set free 0 10) 1 _ (omega (arith, some, length-set free 0 10)) ∙ laid-first free 10 _ (omega (arith, some)))
 
-pub put-added-spec : {M : Type 1} → statement M
-put-added-spec =
+pub put_added_spec : {M : Type 1} → statement M
+put_added_spec =
     tie.close
     (tie.spec
     put-sheet-requires

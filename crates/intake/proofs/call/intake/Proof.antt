@@ -8,24 +8,24 @@ use Rattle.intake.proofs.Promises.{settled}
 use Rattle.intake.proofs.call.intake.Statement.{statement}
 use Rattle.intake.proofs.call.intake.Tie as tie
 
-returns : tie.Need-returns
+returns : tie.Need-returns-in-Refused
 returns c =
     let at-number = c.before.before in
-    let refused = rw at-number.number.given.1 at at-number.before.before.judge.ensures in
+    let refused = rw at-number.number-1.given.1 at at-number.before.before.judge.ensures in
     settled _ _ _ _ (answers c.answered.ensures refl refl (call-refused _ _ _ refused))
 
 -- the order is good
-good : (c : tie.After-layout) → JudgedAs c.before.before.before.before.before.args.order.now (Good c.layout.given.0.0)
-good c = rw c.layout.given.1 at c.before.before.judge.ensures
+good : (c : tie.In-Good-2) → JudgedAs c.before.before.before.before.before.args.order.now (Good c.layout-1.given.0.0)
+good c = rw c.layout-1.given.1 at c.before.before.judge.ensures
 
-returns-2 : tie.Need-returns-2
+returns-2 : tie.Need-returns-in-Good
 returns-2 c =
     let at_take = c.before.before in
     let j = (good at_take.before.before.before).1 in
-    settled _ _ _ _ (rw (call-good _ _ _ j) at_take.take-good.ensures)
+    settled _ _ _ _ (rw (call-good _ _ _ j) at_take.take_good.ensures)
 
-pub intake-spec : {M : Type 1} → statement M
-intake-spec =
+pub intake_spec : {M : Type 1} → statement M
+intake_spec =
     tie.close
     (tie.spec
     (λ c κs. search rules)
@@ -34,5 +34,5 @@ intake-spec =
     (λ c. search rules)
     (λ c κs. (good c.before.before).0)
     returns
-    (λ c. c.before.before.take-good.auto.0)
+    (λ c. c.before.before.take_good.auto.0)
     returns-2)

@@ -38,32 +38,32 @@ refused NoDrawer s v h = refl
 refused NoKey s v h = refl
 refused BadKey s v h = refl
 
-returns : tie.Need-returns
+returns : tie.Need-returns-in_default
 unfolding looks_up word
 returns c =
     let a = c.before.before.before.before.before.args in
     let s = a.text.now in
     let v = a.value.now in
-    sym (refused c.before.lookup.result s v c.match.keys2) ∙ ap (λ (r : Answer). gives r s v) c.before.lookup.ensures.0
+    sym (refused c.before.lookup.result s v c.in-Found.keys2) ∙ ap (λ (r : Answer). gives r s v) c.before.lookup.ensures.0
 
-inside : (c : tie.After-start) →
-    Inside c.before.before.before.before.before.before.args.text.now (Found c.start.given.0.0 c.start.given.0.1.0)
+inside : (c : tie.In-Found-2) →
+    Inside c.before.before.before.before.before.before.args.text.now (Found c.start-1.given.0.0 c.start-1.given.0.1.0)
 inside c =
     let at-lookup = c.before.before in
     let s = at-lookup.before.before.before.before.args.text.now in
     let h : Inside s at-lookup.lookup.result = rw at-lookup.lookup.ensures.0 (lookup-inside s _ _) in
-    rw c.start.given.1 at h
+    rw c.start-1.given.1 at h
 
-returns-2 : tie.Need-returns-2
+returns-2 : tie.Need-returns
 unfolding looks_up word
 returns-2 c =
     let at-start = c.before.before.before in
     let at-lookup = at-start.before.before in
     let a = at-lookup.before.before.before.before.args in
-    c.is-equal.ensures ∙ ap (λ (r : Answer). gives r a.text.now a.value.now) (sym at-start.start.given.1 ∙ at-lookup.lookup.ensures.0)
+    c.is_equal.ensures ∙ ap (λ (r : Answer). gives r a.text.now a.value.now) (sym at-start.start-1.given.1 ∙ at-lookup.lookup.ensures.0)
 
-pub looks-up-spec : {M : Type 1} → statement M
-looks-up-spec =
+pub looks_up_spec : {M : Type 1} → statement M
+looks_up_spec =
     tie.close
     (tie.spec
     (λ c. search rules)

@@ -7,18 +7,18 @@ use Rattle.lookup.proofs.Laws.Keys.{is_reserved-vin, is_reserved-other}
 use Rattle.lookup.proofs.defaults.is_reserved.Statement.{statement}
 use Rattle.lookup.proofs.defaults.is_reserved.Tie as tie
 
-returns : tie.Need-returns
+returns : tie.Need-returns-then-is_word
 unfolding word
-returns c = c.if1.true ∙ sym (is_reserved-vin _ (sym c.before.is_IsWord.ensures ∙ c.if1.true))
+returns c = c.if-is_word.true ∙ sym (is_reserved-vin _ (sym c.before.is_IsWord.ensures ∙ c.if-is_word.true))
 
-returns-2 : tie.Need-returns-2
+returns-2 : tie.Need-returns-else-is_word
 unfolding word
 returns-2 c =
     let at_test = c.before.before in
-    c.is-word2.ensures ∙ sym (is_reserved-other _ (sym at_test.before.is_IsWord.ensures ∙ at_test.if1.false))
+    c.is_word-else-is_word.ensures ∙ sym (is_reserved-other _ (sym at_test.before.is_IsWord.ensures ∙ at_test.if-is_word.false))
 
-pub is-reserved-spec : {M : Type 1} → statement M
-is-reserved-spec =
+pub is_reserved_spec : {M : Type 1} → statement M
+is_reserved_spec =
     tie.close
     (tie.spec
     (λ c. search rules)

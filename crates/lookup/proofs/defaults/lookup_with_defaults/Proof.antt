@@ -56,28 +56,28 @@ module _ (s : List ℕ) (p : ℕ) (d k : List ℕ) (r : Answer) (e : r ≡ looku
     turned : is_reserved k ≡ false → with_defaults s p d k ≡ Defaults (of_defaults d k)
     turned i = with_defaults-defaults s p d k (lacking ∙ ap not i)
 
-returns : tie.Need-returns
-returns c = answers _ _ _ _ _ (stands _ _ _ _ _ c.before.lookup.ensures.0 c.match.keys2)
+returns : tie.Need-returns-in_default
+returns c = answers _ _ _ _ _ (stands _ _ _ _ _ c.before.lookup-answer.ensures.0 c.in-NoKey.keys2)
 
-returns-2 : tie.Need-returns-2
+returns-2 : tie.Need-returns-then-is_reserved
 returns-2 c =
     let at_key = c.before in
     let at_told = at_key.before in
     let at-lookup = at_told.before.before in
-    let reserved = sym at_key.is-reserved.ensures ∙ c.if1.true in
-    answers _ _ _ _ _ (kept _ _ _ _ _ at-lookup.lookup.ensures.0 at_told.enum_told.given.1 reserved)
+    let reserved = sym at_key.is_reserved.ensures ∙ c.if-is_reserved.true in
+    answers _ _ _ _ _ (kept _ _ _ _ _ at-lookup.lookup-answer.ensures.0 at_told.enum_told-1.given.1 reserved)
 
-returns-3 : tie.Need-returns-3
+returns-3 : tie.Need-returns
 returns-3 c =
     let at_test = c.before in
     let at_key = at_test.before in
     let at_told = at_key.before in
     let at-lookup = at_told.before.before in
-    let free = sym at_key.is-reserved.ensures ∙ at_test.if1.false in
-    answers _ _ _ _ _ (turned _ _ _ _ _ at-lookup.lookup.ensures.0 at_told.enum_told.given.1 free ∙ ap Defaults (sym c.of-defaults.ensures))
+    let free = sym at_key.is_reserved.ensures ∙ at_test.if-is_reserved.false in
+    answers _ _ _ _ _ (turned _ _ _ _ _ at-lookup.lookup-answer.ensures.0 at_told.enum_told-1.given.1 free ∙ ap Defaults (sym c.of_defaults.ensures))
 
-pub lookup-with-defaults-spec : {M : Type 1} → statement M
-lookup-with-defaults-spec =
+pub lookup_with_defaults_spec : {M : Type 1} → statement M
+lookup_with_defaults_spec =
     tie.close
     (tie.spec
     (λ c κs. search rules)

@@ -7,13 +7,13 @@ use Rattle.lookup.proofs.Laws.Defaults.{of_defaults-long, of_defaults-at}
 use Rattle.lookup.proofs.defaults.of_defaults.Statement.{statement}
 use Rattle.lookup.proofs.defaults.of_defaults.Tie as tie
 
-returns : tie.Need-returns
+returns : tie.Need-returns-then-size-gt-TEXT
 returns c = sym (of_defaults-long _ _ (omega arith))
 
-returns-2 : tie.Need-returns-2
+returns-2 : tie.Need-returns
 returns-2 c =
-    let found = c.before.next-heading.ensures in
+    let found = c.before.next_heading.ensures in
     c.lookup.ensures.0 ∙ sym (of_defaults-at _ _ _ found)
 
-pub of-defaults-spec : {M : Type 1} → statement M
-of-defaults-spec = tie.close (tie.spec returns (λ c κs. search rules) (λ c κs. search rules) returns-2)
+pub of_defaults_spec : {M : Type 1} → statement M
+of_defaults_spec = tie.close (tie.spec returns (λ c κs. search rules) (λ c κs. search rules) returns-2)

@@ -10,26 +10,26 @@ use Rattle.lookup.proofs.Laws.DrawersFound.{why-open, closer-lines, why-other}
 use Rattle.lookup.proofs.drawer.why_none.Statement.{statement}
 use Rattle.lookup.proofs.drawer.why_none.Tie as tie
 
-returns : tie.Need-returns
-returns c = why-open _ _ _ (sym c.enum_told.given.1 ∙ searched-closer _ _ _ _ _ c.before.before.find-end.ensures)
+returns : tie.Need-returns-in_default
+returns c = why-open _ _ _ (sym c.enum_told-1.given.1 ∙ searched-closer _ _ _ _ _ c.before.before.find_end-search.ensures)
 
 -- the closer
-closer : (c : tie.After-closer) → let a = c.before.before.before.before.args in
-    At c.closer.given.0.0 c.closer.given.0.1.0 c.closer.given.0.1.1.0 ≡ closer_in (word ":end:") a.text.now a.from a.to
-closer c = sym c.closer.given.1 ∙ searched-closer _ _ _ _ _ c.before.before.find-end.ensures
+closer : (c : tie.In-At-2) → let a = c.before.before.before.before.args in
+    At c.closer-1.given.0.0 c.closer-1.given.0.1.0 c.closer-1.given.0.1.1.0 ≡ closer_in (word ":end:") a.text.now a.from a.to
+closer c = sym c.closer-1.given.1 ∙ searched-closer _ _ _ _ _ c.before.before.find_end-search.ensures
 
-first-other-requires : tie.Need-first-other-requires
+first-other-requires : tie.Need-first_other-requires
 first-other-requires c κs =
     let pre = c.before.before.before.before.before.requires in
     omega (arith, closer-lines _ _ _ pre.0 pre.1 _ _ _ (closer c.before))
 
-returns-2 : tie.Need-returns-2
+returns-2 : tie.Need-returns
 returns-2 c =
     let pre = c.before.before.before.before.before.before.requires in
-    why-other _ _ _ pre.0 pre.1 _ _ _ (closer c.before.before) _ c.first-other.ensures
+    why-other _ _ _ pre.0 pre.1 _ _ _ (closer c.before.before) _ c.first_other.ensures
 
-pub why-none-spec : {M : Type 1} → statement M
-why-none-spec =
+pub why_none_spec : {M : Type 1} → statement M
+why_none_spec =
     tie.close
     (tie.spec
     (λ c κs. search rules)

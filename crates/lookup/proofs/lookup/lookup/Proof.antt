@@ -27,29 +27,29 @@ use Rattle.lookup.proofs.lookup.lookup.Tie as tie
 answers : (s : List ℕ) (p : ℕ) (k : List ℕ) (r : Answer) → lookup s p k ≡ r → (r ≡ lookup s p k) × Tied s p k r
 answers s p k r h = (sym h, rw h at (tied s p k))
 
-returns : tie.Need-returns
+returns : tie.Need-returns-then-text-gt-TEXT
 returns c = answers _ _ _ _ (lookup-long _ _ _ (omega arith))
 
-returns-2 : tie.Need-returns-2
+returns-2 : tie.Need-returns-then-is_bad_key
 returns-2 c =
     let at_key = c.before in
-    answers _ _ _ _ (lookup-bad _ _ _ at_key.before.if1.false (sym at_key.is-bad-key.ensures ∙ c.if2.true))
+    answers _ _ _ _ (lookup-bad _ _ _ at_key.before.if-text-gt-TEXT.false (sym at_key.is_bad_key.ensures ∙ c.if-is_bad_key.true))
 
 -- the text is not too long, and the key is good
-tried : (c : tie.Else2) → let a = c.before.before.before.before.before.args in Tried a.text.now a.key.now
-tried c = let at_key = c.before in record { text = at_key.before.if1.false; key = sym at_key.is-bad-key.ensures ∙ c.if2.false }
+tried : (c : tie.Else-is_bad_key) → let a = c.before.before.before.before.before.args in Tried a.text.now a.key.now
+tried c = let at_key = c.before in record { text = at_key.before.if-text-gt-TEXT.false; key = sym at_key.is_bad_key.ensures ∙ c.if-is_bad_key.false }
 
-returns-3 : tie.Need-returns-3
+returns-3 : tie.Need-returns-in_default
 returns-3 c =
     let at-heading = c.before.before in
-    answers _ _ _ _ (lookup-no_heading _ _ _ (tried at-heading.before) (sym at-heading.find-heading.ensures ∙ c.enum_told.given.1))
+    answers _ _ _ _ (lookup-no_heading _ _ _ (tried at-heading.before) (sym at-heading.find_heading.ensures ∙ c.enum_told-1.given.1))
 
 -- the heading line
-heading : (c : tie.After-inner) → let a = c.before.before.before.before.before.before.before.before.args in
-    heading_at a.text.now a.at ≡ Before c.inner.given.0.0
-heading c = sym c.before.before.find-heading.ensures ∙ c.inner.given.1
+heading : (c : tie.In-Before-2) → let a = c.before.before.before.before.before.before.before.before.args in
+    heading_at a.text.now a.at ≡ Before c.inner-1.given.0.0
+heading c = sym c.before.before.find_heading.ensures ∙ c.inner-1.given.1
 
-find-drawer-requires : tie.Need-find-drawer-requires
+find-drawer-requires : tie.Need-find_drawer-drawer-requires
 find-drawer-requires c κs = heading_at-to _ _ _ (heading c.before)
 
 -- the places of the refusals among the answers of the drawer's stage
@@ -64,45 +64,45 @@ refused NotClosed f g h = refl
 refused (NotProperty q) f g h = refl
 refused Missing f g h = refl
 
-returns-4 : tie.Need-returns-4
+returns-4 : tie.Need-returns-in_default-drawer
 returns-4 c =
     let at-drawer = c.before.before in
     let at_inner = at-drawer.before.before in
-    let d = at-drawer.find-drawer.result in
-    answers _ _ _ _ (lookup-drawer _ _ _ (tried at_inner.before.before.before) _ (heading at_inner) d (sym at-drawer.find-drawer.ensures)
-    ∙ refused d _ _ c.before.match2.keys2 ∙ sym c.no-drawer.ensures)
+    let d = at-drawer.find_drawer-drawer.result in
+    answers _ _ _ _ (lookup-drawer _ _ _ (tried at_inner.before.before.before) _ (heading at_inner) d (sym at-drawer.find_drawer-drawer.ensures)
+    ∙ refused d _ _ c.before.in-Lines.keys2 ∙ sym c.no_drawer.ensures)
 
 -- its property drawer
-drawer : (c : tie.After-drawer) → let at_inner = c.before.before.before.before in
-    drawer_after at_inner.before.before.before.before.before.before.before.before.args.text.now at_inner.inner.given.0.0
-    ≡ Lines c.drawer.given.0.0 c.drawer.given.0.1.0
-drawer c = sym c.before.before.find-drawer.ensures ∙ c.drawer.given.1
+drawer : (c : tie.In-Lines-2) → let at_inner = c.before.before.before.before in
+    drawer_after at_inner.before.before.before.before.before.before.before.before.args.text.now at_inner.inner-1.given.0.0
+    ≡ Lines c.drawer-1.given.0.0 c.drawer-1.given.0.1.0
+drawer c = sym c.before.before.find_drawer-drawer.ensures ∙ c.drawer-1.given.1
 
-find-value-requires : tie.Need-find-value-requires
+find-value-requires : tie.Need-find_value-requires
 find-value-requires c κs =
     let at-lines = c.before in
     let at_inner = at-lines.before.before.before.before in
     let o = drawer_after-order _ _ (heading_at-to _ _ _ (heading at_inner)) _ _ (drawer at-lines) in
     (omega arith, omega arith, (tried at_inner.before.before.before).key)
 
-returns-5 : tie.Need-returns-5
+returns-5 : tie.Need-returns-in_default-find_value
 returns-5 c =
     let at_value = c.before.before in
     let at-lines = at_value.before.before in
     let at_inner = at-lines.before.before.before.before in
     answers _ _ _ _ (lookup-no_key _ _ _ (tried at_inner.before.before.before) _ (heading at_inner) _ _ (drawer at-lines)
-    (sym at_value.find-value.ensures ∙ c.enum-told2.given.1))
+    (sym at_value.find_value.ensures ∙ c.enum_told-in_default-find_value-1.given.1))
 
-returns-6 : tie.Need-returns-6
+returns-6 : tie.Need-returns
 returns-6 c =
     let at_value = c.before.before.before in
     let at-lines = at_value.before.before in
     let at_inner = at-lines.before.before.before.before in
     answers _ _ _ _ (lookup-found _ _ _ (tried at_inner.before.before.before) _ (heading at_inner) _ _ (drawer at-lines) _ _
-    (sym at_value.find-value.ensures ∙ c.before.start.given.1))
+    (sym at_value.find_value.ensures ∙ c.before.start-1.given.1))
 
-pub lookup-spec : {M : Type 1} → statement M
-lookup-spec =
+pub lookup_spec : {M : Type 1} → statement M
+lookup_spec =
     tie.close
     (tie.spec
     returns

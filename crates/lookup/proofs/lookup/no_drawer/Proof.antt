@@ -30,20 +30,20 @@ other Missing h = refl
 told : (d x : Drawer) (r : Answer) → d ≡ x → r ≡ with_drawer x (λ a e. NoDrawer) → r ≡ with_drawer d (λ a e. NoDrawer)
 told d x r h i = i ∙ ap (λ (y : Drawer). with_drawer y (λ a e. NoDrawer)) (sym h)
 
-returns : tie.Need-returns
-returns c = told _ BlankFirst _ c.enum_told.given.1 refl
+returns : tie.Need-returns-in-BlankFirst
+returns c = told _ BlankFirst _ c.enum_told-1.given.1 refl
 
-returns-2 : tie.Need-returns-2
-returns-2 c = told _ NotClosed _ c.enum-told2.given.1 refl
+returns-2 : tie.Need-returns-in-NotClosed
+returns-2 c = told _ NotClosed _ c.enum_told-in-NotClosed-1.given.1 refl
 
-returns-3 : tie.Need-returns-3
-returns-3 c = told _ (NotProperty _) _ c.before.drawer.given.1 refl
+returns-3 : tie.Need-returns-in-NotProperty
+returns-3 c = told _ (NotProperty _) _ c.before.drawer-1.given.1 refl
 
-returns-4 : tie.Need-returns-4
-returns-4 c = other c.before.args.drawer c.match.keys4
+returns-4 : tie.Need-returns-in_default
+returns-4 c = other c.before.args.drawer-1 c.in-BlankFirst.keys4
 
-pub no-drawer-spec : {M : Type 1} → statement M
-no-drawer-spec =
+pub no_drawer_spec : {M : Type 1} → statement M
+no_drawer_spec =
     tie.close
     (tie.spec
     (λ c. search rules)

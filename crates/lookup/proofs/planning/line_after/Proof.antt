@@ -6,27 +6,27 @@ use Rattle.lookup.proofs.Laws.Planning.{body_after-none, body_after-line}
 use Rattle.lookup.proofs.planning.line_after.Statement.{statement}
 use Rattle.lookup.proofs.planning.line_after.Tie as tie
 
-returns : tie.Need-returns
+returns : tie.Need-returns-then-to-from
 returns c =
     let at-next-heading = c.before in
     let start = at-next-heading.before.before in
-    body_after-none _ _ start.requires _ at-next-heading.next-heading.ensures c.if1.true
+    body_after-none _ _ start.requires _ at-next-heading.next_heading-to.ensures c.if-to-from.true
 
-line-at-requires : tie.Need-line-at-requires
+line-at-requires : tie.Need-line_at-line-requires
 line-at-requires c κs =
     let at-next-heading = c.before in
     let start = at-next-heading.before.before in
-    section-order start.args.text.now start.args.from start.requires _ at-next-heading.next-heading.ensures
+    section-order start.args.text.now start.args.from start.requires _ at-next-heading.next_heading-to.ensures
 
-returns-2 : tie.Need-returns-2
+returns-2 : tie.Need-returns
 returns-2 c =
     let at-if1 = c.before in
     let at-next-heading = at-if1.before in
     let start = at-next-heading.before.before in
-    body_after-line _ _ start.requires _ at-next-heading.next-heading.ensures at-if1.if1.false _ c.line_at.ensures
+    body_after-line _ _ start.requires _ at-next-heading.next_heading-to.ensures at-if1.if-to-from.false _ c.line_at-line.ensures
 
-pub line-after-spec : {M : Type 1} → statement M
-line-after-spec =
+pub line_after_spec : {M : Type 1} → statement M
+line_after_spec =
     tie.close
     (tie.spec
     (λ c κs. search rules)

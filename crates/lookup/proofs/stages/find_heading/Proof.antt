@@ -7,24 +7,24 @@ use Rattle.lookup.proofs.Laws.Finding.{heading-end, heading-inside, heading-none
 use Rattle.lookup.proofs.stages.find_heading.Statement.{statement}
 use Rattle.lookup.proofs.stages.find_heading.Tie as tie
 
-returns : tie.Need-returns
-returns c = heading-end _ _ c.if1.true
+returns : tie.Need-returns-then-end-at
+returns c = heading-end _ _ c.if-end-at.true
 
-returns-2 : tie.Need-returns-2
-returns-2 c = heading-inside _ _ (sym c.before.starts-line.ensures ∙ not-true _ c.if2.true)
+returns-2 : tie.Need-returns-then-not-starts_line
+returns-2 c = heading-inside _ _ (sym c.before.starts_line.ensures ∙ not-true _ c.if-not-starts_line.true)
 
-returns-3 : tie.Need-returns-3
-returns-3 c = heading-none _ _ _ c.before.heading-stars.ensures c.if3.true
+returns-3 : tie.Need-returns-then-heading_stars-eq0
+returns-3 c = heading-none _ _ _ c.before.heading_stars.ensures c.if-heading_stars-eq0.true
 
-returns-4 : tie.Need-returns-4
+returns-4 : tie.Need-returns
 returns-4 c =
     let at-stars = c.before.before in
     let at-line = at-stars.before in
-    let starts = sym at-line.before.starts-line.ensures ∙ not-false _ at-line.if2.false in
-    heading-here _ _ _ at-stars.heading-stars.ensures c.before.if3.false starts _ c.line-end.ensures
+    let starts = sym at-line.before.starts_line.ensures ∙ not-false _ at-line.if-not-starts_line.false in
+    heading-here _ _ _ at-stars.heading_stars.ensures c.before.if-heading_stars-eq0.false starts _ c.line_end.ensures
 
-pub find-heading-spec : {M : Type 1} → statement M
-find-heading-spec =
+pub find_heading_spec : {M : Type 1} → statement M
+find_heading_spec =
     tie.close
     (tie.spec
     returns

@@ -5,17 +5,17 @@ use Rattle.orgtable.specs.Input.{input_of}
 use Rattle.orgtable.proofs.input.input_of.Statement.{statement}
 use Rattle.orgtable.proofs.input.input_of.Tie as tie
 
-returns : tie.Need-returns
+returns : tie.Need-returns-in-More
 unfolding input_of
-returns c = rw c.enum_told.given.1
+returns c = rw c.enum_told-1.given.1
 
-returns-2 : tie.Need-returns-2
+returns-2 : tie.Need-returns-in-End
 unfolding input_of
-returns-2 c = rw c.enum-told2.given.1
+returns-2 c = rw c.enum_told-in-End-1.given.1
 
-returns-3 : tie.Need-returns-3
+returns-3 : tie.Need-returns-in-Failed
 unfolding input_of
-returns-3 c = rw c.enum-told3.given.1
+returns-3 c = rw c.enum_told-in-Failed-1.given.1
 
-pub input-of-spec : {M : Type 1} → statement M
-input-of-spec = tie.close (tie.spec (λ c. search rules) (λ c. search rules) (λ c. search rules) returns returns-2 returns-3)
+pub input_of_spec : {M : Type 1} → statement M
+input_of_spec = tie.close (tie.spec (λ c. search rules) (λ c. search rules) (λ c. search rules) returns returns-2 returns-3)

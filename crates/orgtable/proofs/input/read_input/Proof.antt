@@ -10,58 +10,58 @@ use Rattle.orgtable.proofs.Laws.Input.{more_within, input-within}
 use Rattle.orgtable.proofs.input.read_input.Statement.{statement}
 use Rattle.orgtable.proofs.input.read_input.Tie as tie
 
-abbrev invariant-loop : tie.invariant-loop
-invariant-loop fd buffer₀ used₀ buffer used = (used ≤ length buffer) × (length buffer ≡ length buffer₀)
+abbrev invariant-loop-used : tie.invariant-loop-used
+invariant-loop-used fd buffer₀ used₀ buffer used = (used ≤ length buffer) × (length buffer ≡ length buffer₀)
 
-abbrev decreases-loop : tie.decreases-loop
-decreases-loop fd buffer₀ used₀ buffer used = length buffer - used
+abbrev decreases-loop-used : tie.decreases-loop-used
+decreases-loop-used fd buffer₀ used₀ buffer used = length buffer - used
 
-loop-holds : tie.Need-loop-init invariant-loop decreases-loop
+loop-holds : tie.Need-loop-used-init invariant-loop-used decreases-loop-used
 loop-holds c = (omega arith, refl)
 
 -- the bytes that a step has moved
-moved : (c : tie.After-step invariant-loop decreases-loop) → let at = c.before.before.before.before.before.before.before in
-    (0 < c.step.given.0.0) × (c.step.given.0.0 ≤ length at.loop.buffer - at.loop.used)
+moved : (c : tie.In-More-2 invariant-loop-used decreases-loop-used) → let at = c.before.before.before.before.before.before.before in
+    (0 < c.step-1.given.0.0) × (c.step-1.given.0.0 ≤ length at.loop-used.buffer-1 - at.loop-used.used)
 moved c =
     let read = c.before.before.before.before in
-    rw read.before.read-step-arg.given.2 at (more_within _ _ _ c.step.given.1 read.Read-step.ensures)
+    rw read.before.read_step-arg-1.given.2 at (more_within _ _ _ c.step-1.given.1 read.Read-step.ensures)
 
-same_length : tie.Need-same-length invariant-loop decreases-loop
-same_length c = c.before.before.before.buffer.given.1 ∙ c.before.before.before.before.before.before.before.loop.invariant.1
+same_length : tie.Need-shape_of-buffer-in_default invariant-loop-used decreases-loop-used
+same_length c = c.before.before.before.buffer-1.given.1 ∙ c.before.before.before.before.before.before.before.loop-used.invariant.1
 
-returns : tie.Need-returns invariant-loop decreases-loop
+returns : tie.Need-returns-in_default invariant-loop-used decreases-loop-used
 returns c =
-    let inv = c.before.before.before.before.before.before.before.loop.invariant in
+    let inv = c.before.before.before.before.before.before.before.loop-used.invariant in
     let fits = rw inv.1 at inv.0 in
     input-within _ _ _ _ c.Input-of.ensures fits
 
-add-used : tie.Need-overflow-add-used invariant-loop decreases-loop
+add-used : tie.Need-overflow-add-used invariant-loop-used decreases-loop-used
 add-used c = let f = moved c.before in omega arith
 
-loop-less : tie.Need-loop-smaller invariant-loop decreases-loop
+loop-less : tie.Need-loop-used-smaller invariant-loop-used decreases-loop-used
 loop-less c =
     let f = moved c.before in
-    let same = c.before.before.before.before.buffer.given.1 in
+    let same = c.before.before.before.before.buffer-1.given.1 in
     omega arith
 
-loop-again : tie.Need-loop-preserved invariant-loop decreases-loop
+loop-again : tie.Need-loop-used-preserved invariant-loop-used decreases-loop-used
 loop-again c =
     let f = moved c.before in
-    let same = c.before.before.before.before.buffer.given.1 in
-    (omega arith, same ∙ c.before.before.before.before.before.before.before.before.loop.invariant.1)
+    let same = c.before.before.before.before.buffer-1.given.1 in
+    (omega arith, same ∙ c.before.before.before.before.before.before.before.before.loop-used.invariant.1)
 
-returns-2 : tie.Need-returns-2 invariant-loop decreases-loop
+returns-2 : tie.Need-returns invariant-loop-used decreases-loop-used
 returns-2 c =
-    let inv = c.before.before.before.before.before.loop.invariant in
+    let inv = c.before.before.before.before.before.loop-used.invariant in
     let fits = rw inv.1 at inv.0 in
-    input-within _ _ _ _ c.input-of2.ensures fits
+    input-within _ _ _ _ c.input_of-2.ensures fits
 
-pub read-input-spec : {M : Type 1} → statement M
-read-input-spec =
+pub read_input_spec : {M : Type 1} → statement M
+read_input_spec =
     tie.close
     (tie.spec
-    invariant-loop
-    decreases-loop
+    invariant-loop-used
+    decreases-loop-used
     loop-holds
     (λ c. omega arith)
     (λ c. omega arith)

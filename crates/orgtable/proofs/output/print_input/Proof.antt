@@ -7,16 +7,16 @@ use lib.Seq.{length-take-le}
 use Rattle.orgtable.proofs.output.print_input.Statement.{statement}
 use Rattle.orgtable.proofs.output.print_input.Tie as tie
 
-put-input-requires : tie.Need-put-input-requires
+put-input-requires : tie.Need-put_input-used-requires
 put-input-requires c κs =
     let start = c.before.before.before.before in
     (start.requires.0, (start.requires.1.0, omega arith))
 
-slice-aggregate-print : tie.Need-slice-aggregate-print
+slice-aggregate-print : tie.Need-slice_bounds-print-end
 slice-aggregate-print c = sym (length-take-le _ _ (omega arith))
 
-pub print-input-spec : {M : Type 1} → statement M
-print-input-spec =
+pub print_input_spec : {M : Type 1} → statement M
+print_input_spec =
     tie.close
     (tie.spec
     (λ c. search rules)

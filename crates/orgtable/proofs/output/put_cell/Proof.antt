@@ -6,7 +6,7 @@ use Rattle.orgtable.proofs.Laws.Digits.{decimal-length}
 use Rattle.orgtable.proofs.output.put_cell.Statement.{statement}
 use Rattle.orgtable.proofs.output.put_cell.Tie as tie
 
-put-number-requires : tie.Need-put-number-requires
+put-number-requires : tie.Need-put_number-end-requires
 put-number-requires c κs =
     let few = decimal-length 9 c.before.before.args.n (omega arith) in
     omega arith
@@ -20,7 +20,7 @@ returns : tie.Need-returns
 returns c =
     let at-number = c.before.before.before.before.before.before in
     let few = decimal-length 9 at-number.before.before.before.args.n (omega arith) in
-    (rw at-number.put-number.ensures.0 at c.before.before.put.ensures.0, omega arith)
+    (rw at-number.put_number-end.ensures.0 at c.before.before.put.ensures.0, omega arith)
 
-pub put-cell-spec : {M : Type 1} → statement M
-put-cell-spec = tie.close (tie.spec put-number-requires put-requires (λ c. search rules) returns)
+pub put_cell_spec : {M : Type 1} → statement M
+put_cell_spec = tie.close (tie.spec put-number-requires put-requires (λ c. search rules) returns)

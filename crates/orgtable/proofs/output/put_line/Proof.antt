@@ -15,46 +15,46 @@ use Rattle.orgtable.proofs.Laws.Lines.{line-turn, line-end}
 use Rattle.orgtable.proofs.output.put_line.Statement.{statement}
 use Rattle.orgtable.proofs.output.put_line.Tie as tie
 
-abbrev invariant-loop : tie.invariant-loop
-invariant-loop out₀ used table at end₀ i₀ out end i =
+abbrev invariant-loop-i : tie.invariant-loop-i
+invariant-loop-i out₀ used table at end₀ i₀ out end i =
     (at ≤ i) × (i ≤ at + line_place) × (length out ≡ length out₀) × (end + cell_size * (at + record_size - i) ≤ used + line_size)
     × (take end out ++ line (slice i (at + record_size) table) ≡ take used out₀ ++ line (slice at (at + record_size) table))
 
-abbrev decreases-loop : tie.decreases-loop
-decreases-loop out₀ used table at end₀ i₀ out end i = at + record_size - i
+abbrev decreases-loop-i : tie.decreases-loop-i
+decreases-loop-i out₀ used table at end₀ i₀ out end i = at + record_size - i
 
-loop-again : tie.Need-loop-preserved invariant-loop decreases-loop
+loop-again : tie.Need-loop-i-preserved invariant-loop-i decreases-loop-i
 loop-again c =
-    let put = c.before.before.put-cell in
+    let put = c.before.before.put_cell-end in
     let at-loop = c.before.before.before.before.before.before in
-    let inv = at-loop.loop.invariant in
+    let inv = at-loop.loop-i.invariant in
     let start = at-loop.before.before.before in (
       omega arith,
       omega arith,
       put.auto.0 ∙ inv.2,
       omega arith,
-      line-turn start.args.table.now at-loop.loop.i (start.args.at + record_size)
-          (take at-loop.loop.end at-loop.loop.out) _ _ inv.4 (omega arith) (omega arith) put.ensures.0,
+      line-turn start.args.table.now at-loop.loop-i.i (start.args.at + record_size)
+          (take at-loop.loop-i.end at-loop.loop-i.out-1) _ _ inv.4 (omega arith) (omega arith) put.ensures.0,
     )
 
-same_length : tie.Need-same-length invariant-loop decreases-loop
-same_length c = c.before.before.put-cell2.auto.0 ∙ c.before.before.before.before.before.before.loop.invariant.2
+same_length : tie.Need-shape_of-out invariant-loop-i decreases-loop-i
+same_length c = c.before.before.put_cell.auto.0 ∙ c.before.before.before.before.before.before.loop-i.invariant.2
 
-returns : tie.Need-returns invariant-loop decreases-loop
+returns : tie.Need-returns invariant-loop-i decreases-loop-i
 returns c =
     let at-loop = c.before.before.before.before.before.before in
     let start = at-loop.before.before.before in (
-      line-end start.args.table.now at-loop.loop.i (start.args.at + record_size)
-          (take at-loop.loop.end at-loop.loop.out) _ _ at-loop.loop.invariant.4 (omega arith) (omega arith) c.before.before.put-cell2.ensures.0,
+      line-end start.args.table.now at-loop.loop-i.i (start.args.at + record_size)
+          (take at-loop.loop-i.end at-loop.loop-i.out-1) _ _ at-loop.loop-i.invariant.4 (omega arith) (omega arith) c.before.before.put_cell.ensures.0,
       omega arith,
     )
 
-pub put-line-spec : {M : Type 1} → statement M
-put-line-spec =
+pub put_line_spec : {M : Type 1} → statement M
+put_line_spec =
     tie.close
     (tie.spec
-    invariant-loop
-    decreases-loop
+    invariant-loop-i
+    decreases-loop-i
     (λ c. (omega arith, omega arith, refl, omega arith, refl))
     (λ c. omega arith)
     (λ c. search rules)

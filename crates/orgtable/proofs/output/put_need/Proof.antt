@@ -7,12 +7,12 @@ use Rattle.orgtable.proofs.Laws.Lines.{refused-with}
 use Rattle.orgtable.proofs.output.put_need.Statement.{statement}
 use Rattle.orgtable.proofs.output.put_need.Tie as tie
 
-put-number-requires : tie.Need-put-number-requires
+put-number-requires : tie.Need-put_number-used-requires
 put-number-requires c κs =
     let few = decimal-length 19 c.before.before.before.before.before.before.before.before.before.before.args.count (omega arith) in
     omega arith
 
-put-requires-2 : tie.Need-put-requires-2
+put-requires-2 : tie.Need-put-requires
 put-requires-2 c κs =
     let at-put = c.before.before.before.before.before.before.before in
     let few = decimal-length 19 at-put.before.before.before.before.before.before.before.args.count (omega arith) in
@@ -24,13 +24,13 @@ returns c =
     let at-space = at_count.before.before.before.before in
     let at-number = at-space.before.before.before.before in
     let few = decimal-length 19 at-number.before.before.before.args.count (omega arith) in (
-      refused-with _ _ _ _ _ _ at-number.Put-refused.ensures.0 at-space.put.ensures.0 at_count.put-number.ensures.0
-          c.before.before.put2.ensures.0,
+      refused-with _ _ _ _ _ _ at-number.Put-refused.ensures.0 at-space.put-spaced.ensures.0 at_count.put_number-used.ensures.0
+          c.before.before.put.ensures.0,
       omega arith,
     )
 
-pub put-need-spec : {M : Type 1} → statement M
-put-need-spec =
+pub put_need_spec : {M : Type 1} → statement M
+put_need_spec =
     tie.close
     (tie.spec
     (λ c κs. search rules)

@@ -7,16 +7,16 @@ use Rattle.orgtable.proofs.Laws.Answers.{settled-shown, settled-printed}
 use Rattle.orgtable.proofs.output.put_reading.Statement.{statement}
 use Rattle.orgtable.proofs.output.put_reading.Tie as tie
 
-put-answer-requires : tie.Need-put-answer-requires
+put-answer-requires : tie.Need-put_answer-requires
 put-answer-requires c κs =
-    let fits = settled-shown _ _ _ _ c.before.before.before.before.read.ensures in
+    let fits = settled-shown _ _ _ _ c.before.before.before.before.read-answer.ensures in
     omega arith
 
 returns : tie.Need-returns
 returns c =
     let at-put = c.before.before in
     let at_read = at-put.before.before.before.before.before in
-    (at-put.put-answer.ensures.0 ∙ settled-printed _ _ _ _ at_read.read.ensures, omega arith)
+    (at-put.put_answer.ensures.0 ∙ settled-printed _ _ _ _ at_read.read-answer.ensures, omega arith)
 
-pub put-reading-spec : {M : Type 1} → statement M
-put-reading-spec = tie.close (tie.spec (λ c κs. search rules) put-answer-requires (λ c. search rules) (λ c. search rules) returns)
+pub put_reading_spec : {M : Type 1} → statement M
+put_reading_spec = tie.close (tie.spec (λ c κs. search rules) put-answer-requires (λ c. search rules) (λ c. search rules) returns)

@@ -11,5 +11,5 @@ returns c =
     let at-number = c.before.before.before.before.before.before in
     (refused-alone _ _ _ at-number.Put-refused.ensures.0 c.before.before.put.ensures.0, omega arith)
 
-pub put-refusal-spec : {M : Type 1} → statement M
-put-refusal-spec = tie.close (tie.spec (λ c κs. search rules) (λ c κs. search rules) (λ c. search rules) returns)
+pub put_refusal_spec : {M : Type 1} → statement M
+put_refusal_spec = tie.close (tie.spec (λ c κs. search rules) (λ c κs. search rules) (λ c. search rules) returns)

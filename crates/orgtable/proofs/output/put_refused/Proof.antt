@@ -7,7 +7,7 @@ use Rattle.orgtable.proofs.Laws.Digits.{decimal-length}
 use Rattle.orgtable.proofs.output.put_refused.Statement.{statement}
 use Rattle.orgtable.proofs.output.put_refused.Tie as tie
 
-put-number-requires : tie.Need-put-number-requires
+put-number-requires : tie.Need-put_number-requires
 put-number-requires c κs =
     let few = decimal-length 19 c.before.before.before.before.before.before.before.args.number (omega arith) in
     omega arith
@@ -17,7 +17,7 @@ unfolding word
 returns c =
     let at-word = c.before.before.before.before.before.before in
     let few = decimal-length 19 at-word.before.before.before.before.args.number (omega arith) in
-    (rw at-word.put_all_lem.ensures.0 at c.before.before.put-number.ensures.0, omega arith)
+    (rw at-word.put_all_lem.ensures.0 at c.before.before.put_number.ensures.0, omega arith)
 
-pub put-refused-spec : {M : Type 1} → statement M
-put-refused-spec = tie.close (tie.spec (λ c. search rules) (λ c κs. search rules) put-number-requires (λ c. search rules) returns)
+pub put_refused_spec : {M : Type 1} → statement M
+put_refused_spec = tie.close (tie.spec (λ c. search rules) (λ c κs. search rules) put-number-requires (λ c. search rules) returns)

@@ -12,7 +12,7 @@ use Rattle.reading.proofs.Laws.SectionPlaces.{heading-record, heading_line-order
 use Rattle.reading.proofs.headings.heading_record.Statement.{statement}
 use Rattle.reading.proofs.headings.heading_record.Tie as tie
 
-next-heading-requires : tie.Need-next-heading-requires
+next-heading-requires : tie.Need-next_heading-end-requires
 next-heading-requires c κs = (heading_line-order c.before.before.requires.0).2
 
 returns : tie.Need-returns
@@ -26,10 +26,10 @@ returns c =
     let number = line_number-le args.text.now args.at in
     let line = start.requires.2 in
     let end = next_line-to args.text.now (is_heading_up_to args.stars) args.next order.2 in (
-      rw start.requires.2 (sym (heading-record _ _ l.here l.some _ l.end _ _ _ _ l.stars l.next at-end.next-heading.ensures)
-          ∙ ap (λ (q : ℕ). heading_record args.text.now q args.at) c.find-parent.ensures.0),
+      rw start.requires.2 (sym (heading-record _ _ l.here l.some _ l.end _ _ _ _ l.stars l.next at-end.next_heading-end.ensures)
+          ∙ ap (λ (q : ℕ). heading_record args.text.now q args.at) c.find_parent.ensures.0),
       search rules,
     )
 
-pub heading-record-spec : {M : Type 1} → statement M
-heading-record-spec = tie.close (tie.spec next-heading-requires (λ c κs. search rules) returns)
+pub heading_record_spec : {M : Type 1} → statement M
+heading_record_spec = tie.close (tie.spec next-heading-requires (λ c κs. search rules) returns)

@@ -26,44 +26,44 @@ use Rattle.reading.proofs.Laws.Turns.{heading-entry}
 use Rattle.reading.proofs.headings.read_heading.Statement.{statement}
 use Rattle.reading.proofs.headings.read_heading.Tie as tie
 
-next-heading-requires : tie.Need-next-heading-requires
+next-heading-requires : tie.Need-next_heading-next-requires
 next-heading-requires c κs =
     let pre = c.before.before.before.before.requires in
-    (heading-line _ _ pre.0 pre.1 _ c.line-end.ensures).1
+    (heading-line _ _ pre.0 pre.1 _ c.line_end-inner.ensures).1
 
 -- the heading line
-module _ (c : tie.After-next-heading) where
+module _ (c : tie.After-next_heading-next) where
   abbrev start : tie.Start
   start = c.before.before.before.before.before
 
   abbrev s : List ℕ
   s = start.args.text.now
 
-  line : HeadingLine s start.args.at c.before.line-end.result c.next-heading.result c.before.before.heading-stars.result
+  line : HeadingLine s start.args.at c.before.line_end-inner.result c.next_heading-next.result c.before.before.heading_stars-stars.result
   line =
-      let inner = heading-line s _ start.pre.0 start.pre.1 _ c.before.line-end.ensures in
+      let inner = heading-line s _ start.pre.0 start.pre.1 _ c.before.line_end-inner.ensures in
       record {
         here = start.pre.0;
         some = start.pre.1;
-        stars = c.before.before.heading-stars.ensures;
-        end = c.before.line-end.ensures;
-        next = c.next-heading.ensures ∙ next_line-up_to s (length s) _ inner.1 (omega arith);
+        stars = c.before.before.heading_stars-stars.ensures;
+        end = c.before.line_end-inner.ensures;
+        next = c.next_heading-next.ensures ∙ next_line-up_to s (length s) _ inner.1 (omega arith);
       }
 
   -- its number, and that of the line after it
   number_small : start.args.number ≤ text_limit
   number_small = omega (arith, start.pre.4, line_number-le s start.args.at, start.pre.0.limit, start.pre.1)
 
-  inner-line : c.before.line-end.result < length s → start.args.number + 1 ≡ line_number s c.before.line-end.result
-  inner-line i = ap (λ (k : ℕ). k + 1) start.pre.4 ∙ (sym (line_number-next s _ (length s) _ start.pre.1 (omega arith) c.before.line-end.ensures i))
+  inner-line : c.before.line_end-inner.result < length s → start.args.number + 1 ≡ line_number s c.before.line_end-inner.result
+  inner-line i = ap (λ (k : ℕ). k + 1) start.pre.4 ∙ (sym (line_number-next s _ (length s) _ start.pre.1 (omega arith) c.before.line_end-inner.ensures i))
 
-heading-record-requires : tie.Need-heading-record-requires
+heading-record-requires : tie.Need-heading_record-r-requires
 heading-record-requires c κs = let at_next = c.before.before in (line at_next, (start at_next).requires.2, (start at_next).requires.4)
 
-emit-requires : tie.Need-emit-requires
-emit-requires c κs = (on c.before.if1.branch (λ w. rw w.3 w.2.ensures.1) (λ w. rw w.2 w.1.ensures), omega arith)
+emit-requires : tie.Need-emit-out-requires
+emit-requires c κs = (on c.before.if-sink.branch (λ w. rw w.3 w.2.ensures.1) (λ w. rw w.2 w.1.ensures), omega arith)
 
-read-section-requires : tie.Need-read-section-requires
+read-section-requires : tie.Need-read_section-section-requires
 read-section-requires c κs =
     let at_next = c.before.before.before.before.before.before in
     let l = line at_next in
@@ -82,22 +82,22 @@ read-section-requires c κs =
     )
 
 -- the record that is emitted does as the heading's, after the earlier headings hs
-module _ (c : tie.After-emit) where
-  abbrev at_next : tie.After-next-heading
+module _ (c : tie.After-emit-out) where
+  abbrev at_next : tie.After-next_heading-next
   at_next = c.before.before.before
 
   abbrev st : State
-  st = state (start at_next).args.table.now (start at_next).args.sink
+  st = state (start at_next).args.table-1.now (start at_next).args.sink
 
   emitted : (hs : Earlier) → (start at_next).args.last ≡ last_index hs → Tracked st hs
       → let p = (start at_next).args.at in
-      state c.emit.new.0 c.emit.result
+      state c.emit-out.new.0 c.emit-out.result
       ≡ absorb st (entry (heading_record (s at_next) (nearest (stars (line_at (s at_next) p)) hs) p) 0)
   emitted hs last tracked =
       let l = line at_next in
       let many = heading-stars _ _ l.here l.some _ l.stars in
-      c.emit.ensures.0
-      ∙ on c.before.before.if1.branch
+      c.emit-out.ensures.0
+      ∙ on c.before.before.if-sink.branch
       (λ w. ap (λ (r : Record). absorb st (entry r 0)) (w.3 ∙ w.2.ensures.0) ∙ tracked-heading tracked (s at_next) _ _ (λ i. cc))
       (λ w. absorb-any st _ _ 0 w.0.left)
 
@@ -108,15 +108,15 @@ returns c =
     let at-emit = at-section.before.before.before.before in
     let l = line (at_next at-emit) in
     let order = heading_line-order l in
-    let section = rw l.end at at-section.read-section.ensures.0 in
-    let count : at-section.read-section.result.sink.count ≤ 2 * (at_next at-emit).next-heading.result + 2 =
-    omega (arith, at-section.read-section.ensures.1.0, at-emit.emit.ensures.1, (start (at_next at-emit)).pre.3, order) in (
-      (omega arith, l.next ∙ ap (next_line is_heading (s (at_next at-emit))) l.end, count, at-section.read-section.ensures.1.1),
+    let section = rw l.end at at-section.read_section-section.ensures.0 in
+    let count : at-section.read_section-section.result.sink.count ≤ 2 * (at_next at-emit).next_heading-next.result + 2 =
+    omega (arith, at-section.read_section-section.ensures.1.0, at-emit.emit-out.ensures.1, (start (at_next at-emit)).pre.3, order) in (
+      (omega arith, l.next ∙ ap (next_line is_heading (s (at_next at-emit))) l.end, count, at-section.read_section-section.ensures.1.1),
       λ hs last tracked. heading-entry _ hs _ _ _ _ (emitted at-emit hs last tracked) section,
     )
 
-pub read-heading-spec : {M : Type 1} → statement M
-read-heading-spec =
+pub read_heading_spec : {M : Type 1} → statement M
+read_heading_spec =
     tie.close
     (tie.spec
     (λ c κs. search rules)

@@ -34,13 +34,13 @@ record Reached (s : List ℕ) (from before : ℕ) (st₀ : State) (p n last : �
   size : length st.tab ≡ length st₀.tab
   way : (hs : Earlier) → before ≡ last_index hs → Tracked st₀ hs → Way s from hs st₀ p last st
 
-abbrev invariant-loop : tie.invariant-loop
-invariant-loop text from number before table₀ end at₀ n₀ last₀ out₀ table at n last out = Reached text from before (state table₀ out₀) at n last (state table out)
+abbrev invariant-loop-at : tie.invariant-loop-at
+invariant-loop-at text from number before table₀ end at₀ n₀ last₀ out₀ table at n last out = Reached text from before (state table₀ out₀) at n last (state table out)
 
-abbrev decreases-loop : tie.decreases-loop
-decreases-loop text from number before table₀ end at₀ n₀ last₀ out₀ table at n last out = length text - at
+abbrev decreases-loop-at : tie.decreases-loop-at
+decreases-loop-at text from number before table₀ end at₀ n₀ last₀ out₀ table at n last out = length text - at
 
-loop-holds : tie.Need-loop-init invariant-loop decreases-loop
+loop-holds : tie.Need-loop-at-init invariant-loop-at decreases-loop-at
 loop-holds c =
     let pre = c.before.before.requires in
     record {
@@ -52,21 +52,21 @@ loop-holds c =
       way = λ hs index tracked. record { earlier = hs; index = index; tracked = tracked; same = refl };
     }
 
-read-heading-requires : tie.Need-read-heading-requires invariant-loop decreases-loop
+read-heading-requires : tie.Need-read_heading-turn-requires invariant-loop-at decreases-loop-at
 read-heading-requires c κs =
-    let inv = c.before.before.loop.invariant in
-    (inv.here, c.before.loop-test.true, inv.small, inv.count, inv.line c.before.loop-test.true)
+    let inv = c.before.before.loop-at.invariant in
+    (inv.here, c.before.loop-at-test.true, inv.small, inv.count, inv.line c.before.loop-at-test.true)
 
-loop-less : tie.Need-loop-smaller invariant-loop decreases-loop
-loop-less c = omega (arith, c.before.before.before.read-heading.ensures.0)
+loop-less : tie.Need-loop-at-smaller invariant-loop-at decreases-loop-at
+loop-less c = omega (arith, c.before.before.before.read_heading-turn.ensures.0)
 
-loop-again : tie.Need-loop-preserved invariant-loop decreases-loop
+loop-again : tie.Need-loop-at-preserved invariant-loop-at decreases-loop-at
 loop-again c =
     let at-heading = c.before.before.before in
     let at_test = at-heading.before.before in
-    let loop = at_test.before.loop in
-    let some = at_test.loop-test.true in
-    let (less, next, count, line) = at-heading.read-heading.ensures.0 in
+    let loop = at_test.before.loop-at in
+    let some = at_test.loop-at-test.true in
+    let (less, next, count, line) = at-heading.read_heading-turn.ensures.0 in
     record {
       here = rw next (heading-after _ _ loop.invariant.here some);
       line = line;
@@ -75,27 +75,27 @@ loop-again c =
       size = search rules;
       way = λ hs index tracked.
           let w = loop.invariant.way hs index tracked in
-          let made = at-heading.read-heading.ensures.1 w.earlier w.index w.tracked in
+          let made = at-heading.read_heading-turn.ensures.1 w.earlier w.index w.tracked in
           record {
-            earlier = (loop.out.count, stars (line_at _ loop.at)) ∷ w.earlier;
+            earlier = (loop.out-1.count, stars (line_at _ loop.at)) ∷ w.earlier;
             index = refl;
             tracked = tracked-entry w.tracked _ _ made;
             same = rw next (heading-turn _ _ _ _ _ some made ∙ w.same);
           };
     }
 
-returns : tie.Need-returns invariant-loop decreases-loop
-returns c = λ hs index tracked. headings-none _ _ _ _ c.loop-test.false ∙ (c.before.loop.invariant.way hs index tracked).same
+returns : tie.Need-returns invariant-loop-at decreases-loop-at
+returns c = λ hs index tracked. headings-none _ _ _ _ c.loop-at-test.false ∙ (c.before.loop-at.invariant.way hs index tracked).same
 
-pub read-headings-spec : {M : Type 1} → statement M
-read-headings-spec =
+pub read_headings_spec : {M : Type 1} → statement M
+read_headings_spec =
     tie.close
     (tie.spec
-    invariant-loop
-    decreases-loop
+    invariant-loop-at
+    decreases-loop-at
     loop-holds
     read-heading-requires
     loop-less
     loop-again
-    (λ c. c.before.loop.invariant.size)
+    (λ c. c.before.loop-at.invariant.size)
     returns)

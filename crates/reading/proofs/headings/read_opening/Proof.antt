@@ -16,14 +16,14 @@ use Rattle.reading.proofs.Laws.Turns.{opening-entry}
 use Rattle.reading.proofs.headings.read_opening.Statement.{statement}
 use Rattle.reading.proofs.headings.read_opening.Tie as tie
 
-module _ (c : tie.After-next-heading) where
+module _ (c : tie.After-next_heading-first) where
   abbrev s : List ℕ
   s = c.before.before.before.before.before.before.before.args.text.now
 
-  first : c.next-heading.result ≡ next_line is_heading s 0
-  first = c.next-heading.ensures ∙ next_line-up_to s (length s) 0 (omega arith) (omega arith)
+  first : c.next_heading-first.result ≡ next_line is_heading s 0
+  first = c.next_heading-first.ensures ∙ next_line-up_to s (length s) 0 (omega arith) (omega arith)
 
-read-section-requires : tie.Need-read-section-requires
+read-section-requires : tie.Need-read_section-section-requires
 read-section-requires c κs =
     let at_next = c.before in (
       record {
@@ -45,12 +45,12 @@ returns c =
     let at_next = at-section.before.before in
     let at-emit = at_next.before.before.before in
     let start = at-emit.before.before.before.before in (
-      (first at_next, omega (arith, at-section.read-section.ensures.1.0), at-section.read-section.ensures.1.1),
-      opening-entry _ _ _ _ start.requires.1 at-emit.emit.ensures.0 at-section.read-section.ensures.0,
+      (first at_next, omega (arith, at-section.read_section-section.ensures.1.0), at-section.read_section-section.ensures.1.1),
+      opening-entry _ _ _ _ start.requires.1 at-emit.emit-out.ensures.0 at-section.read_section-section.ensures.0,
     )
 
-pub read-opening-spec : {M : Type 1} → statement M
-read-opening-spec =
+pub read_opening_spec : {M : Type 1} → statement M
+read_opening_spec =
     tie.close
     (tie.spec
     (λ c κs. search rules)

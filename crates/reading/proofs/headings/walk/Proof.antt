@@ -11,10 +11,10 @@ use Rattle.reading.proofs.Laws.Turns.{reading-turn}
 use Rattle.reading.proofs.headings.walk.Statement.{statement}
 use Rattle.reading.proofs.headings.walk.Tie as tie
 
-read-headings-requires : tie.Need-read-headings-requires
+read-headings-requires : tie.Need-read_headings-requires
 read-headings-requires c κs =
     let at-opening = c.before.before.before in
-    let (first, count, line) = at-opening.read-opening.ensures.0 in
+    let (first, count, line) = at-opening.read_opening-turn.ensures.0 in
     (rw first (next-heading _ 0 (omega arith) (line_start-zero _)), omega arith, count, line)
 
 returns : tie.Need-returns
@@ -22,12 +22,12 @@ returns c =
     let at-headings = c.before.before in
     let at-opening = at-headings.before.before.before.before in
     let start = at-opening.before.before.before.before in
-    let (first, count, line) = at-opening.read-opening.ensures.0 in
-    (rw first at (at-headings.read-headings.ensures [] refl (tracked-none _)))
-    ∙ reading-turn _ _ _ start.requires.1 at-opening.read-opening.ensures.1
+    let (first, count, line) = at-opening.read_opening-turn.ensures.0 in
+    (rw first at (at-headings.read_headings.ensures [] refl (tracked-none _)))
+    ∙ reading-turn _ _ _ start.requires.1 at-opening.read_opening-turn.ensures.1
 
-pub walk-spec : {M : Type 1} → statement M
-walk-spec =
+pub walk_spec : {M : Type 1} → statement M
+walk_spec =
     tie.close
     (tie.spec
     (λ c κs. search rules)

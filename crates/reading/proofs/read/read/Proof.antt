@@ -8,7 +8,7 @@ pub read_spec : {M : Type 1} → statement M
 read_spec =
     tie.close
     (tie.spec
-    (λ c. settled-long _ _ c.if1.true)
+    (λ c. settled-long _ _ c.if-text-gt-TEXT.true)
     (λ c κs. search rules)
     (λ c. search rules)
     (λ c. search rules)

@@ -10,38 +10,38 @@ use Rattle.reading.proofs.Laws.Absorb.{absorb-stop, absorb-deep, absorb-full, ab
 use Rattle.reading.proofs.sink.emit.Statement.{statement}
 use Rattle.reading.proofs.sink.emit.Tie as tie
 
-returns : tie.Need-returns
-returns c = (sym (absorb-stop _ _ c.if1.true), (omega arith, λ h. absurd (true≢false (sym c.if1.true ∙ h))))
+returns : tie.Need-returns-then-sink
+returns c = (sym (absorb-stop _ _ c.if-sink.true), (omega arith, λ h. absurd (true≢false (sym c.if-sink.true ∙ h))))
 
-returns-2 : tie.Need-returns-2
+returns-2 : tie.Need-returns-then-depth-gt-DEPTH
 returns-2 c =
     rw c.stop.ensures
-    (sym (absorb-deep _ _ _ _ c.before.before.if1.false c.before.if2.true), (omega arith, λ h. absurd (true≢false h)))
+    (sym (absorb-deep _ _ _ _ c.before.before.if-sink.false c.before.if-depth-gt-DEPTH.true), (omega arith, λ h. absurd (true≢false h)))
 
-returns-3 : tie.Need-returns-3
+returns-3 : tie.Need-returns-then-table-at
 returns-3 c =
     let at-mode = c.before.before.before in
-    rw c.stop2.ensures (
-      sym (absorb-full _ _ _ _ at-mode.before.before.if1.false at-mode.before.if2.false at-mode.if3.true c.before.if4.true),
+    rw c.stop-then-table-at.ensures (
+      sym (absorb-full _ _ _ _ at-mode.before.before.if-sink.false at-mode.before.if-depth-gt-DEPTH.false at-mode.if-sink-2.true c.before.if-table-at.true),
       (omega arith, λ h. absurd (true≢false h)),
     )
 
-returns-4 : tie.Need-returns-4
+returns-4 : tie.Need-returns
 returns-4 c =
     let at-depth = c.before.before in
-    let go = at-depth.before.if1.false in (
+    let go = at-depth.before.if-sink.false in (
       ⊎_elim
-          (λ w. rw (w.7 ∙ w.4.ensures) (sym (absorb-put _ _ _ _ go at-depth.if2.false w.0.taken w.2.left)))
-          (λ w. rw w.1 (sym (absorb-count _ _ _ _ go at-depth.if2.false w.0.left)))
-          c.before.if3.branch,
+          (λ w. rw (w.7 ∙ w.4.ensures) (sym (absorb-put _ _ _ _ go at-depth.if-depth-gt-DEPTH.false w.0.taken w.2.left)))
+          (λ w. rw w.1 (sym (absorb-count _ _ _ _ go at-depth.if-depth-gt-DEPTH.false w.0.left)))
+          c.before.if-sink-2.branch,
       (omega arith, λ h. omega arith),
     )
 
-same_length : tie.Need-same-length
-same_length c = ⊎_elim (λ w. ap length (w.7 ∙ w.4.ensures) ∙ simp length-set) (λ w. ap length w.1) c.before.if3.branch
+same_length : tie.Need-shape_of-table
+same_length c = ⊎_elim (λ w. ap length (w.7 ∙ w.4.ensures) ∙ simp length-set) (λ w. ap length w.1) c.before.if-sink-2.branch
 
-pub emit-spec : {M : Type 1} → statement M
-emit-spec =
+pub emit_spec : {M : Type 1} → statement M
+emit_spec =
     tie.close
     (tie.spec
     returns

@@ -14,14 +14,14 @@ use Rattle.table.specs.Nesting.{depth_in}
 use Rattle.reading.proofs.walk.depth_in.Statement.{statement}
 use Rattle.reading.proofs.walk.depth_in.Tie as tie
 
-two : (c : tie.Joined1) → c.if1.if2 ≡ (eqb c.before.args.kind Kind.drawer || eqb c.before.args.kind Kind.greater_block)
+two : (c : tie.Joined-kind-eq-DRAWER) → c.if-kind-eq-DRAWER.if-kind-eq-GREATER_BLOCK ≡ (eqb c.before.args.kind Kind.drawer || eqb c.before.args.kind Kind.greater_block)
 two c =
     ⊎_elim
     (λ w. w.1 ∙ rw (eq-eqb c.before.args.kind Kind.drawer w.0.taken))
     (λ w. w.1 ∙ rw (ne_eqb c.before.args.kind Kind.drawer w.0.left))
-    c.if1.branch
+    c.if-kind-eq-DRAWER.branch
 
-counts : (c : tie.Joined2) → c.if2.if3 ≡ counts_depth c.before.before.args.kind
+counts : (c : tie.Joined-kind-eq-GREATER_BLOCK) → c.if-kind-eq-GREATER_BLOCK.if-kind-eq-LIST ≡ counts_depth c.before.before.args.kind
 counts c =
     let k = c.before.before.args.kind in
     let or-list : Bool → Bool = λ v. v || eqb k Kind.list in
@@ -29,15 +29,15 @@ counts c =
     (⊎_elim
     (λ w. w.1 ∙ w.0.taken ∙ sym (ap or-list (sym (two c.before) ∙ w.0.taken)))
     (λ w. w.1 ∙ sym (ap or-list (sym (two c.before) ∙ w.0.left)))
-    c.if2.branch)
+    c.if-kind-eq-GREATER_BLOCK.branch)
 
-returns : tie.Need-returns
+returns : tie.Need-returns-then-kind-eq-LIST
 unfolding depth_in
-returns c = rw (sym (counts c.before) ∙ c.if3.true, depth_in) (add-one _)
+returns c = rw (sym (counts c.before) ∙ c.if-kind-eq-LIST.true, depth_in) (add-one _)
 
-returns-2 : tie.Need-returns-2
+returns-2 : tie.Need-returns-else-kind-eq-LIST
 unfolding depth_in
-returns-2 c = rw (sym (counts c.before) ∙ c.if3.false, depth_in)
+returns-2 c = rw (sym (counts c.before) ∙ c.if-kind-eq-LIST.false, depth_in)
 
-pub depth-in-spec : {M : Type 1} → statement M
-depth-in-spec = tie.close (tie.spec (λ c. search rules) returns returns-2)
+pub depth_in_spec : {M : Type 1} → statement M
+depth_in_spec = tie.close (tie.spec (λ c. search rules) returns returns-2)

@@ -10,7 +10,7 @@ use Rattle.reading.specs.Walk.{starts_inside, inner_line}
 use Rattle.reading.proofs.walk.inner_line.Statement.{statement}
 use Rattle.reading.proofs.walk.inner_line.Tie as tie
 
-inside : (c : tie.Joined1) → starts_inside c.before.args.kind ≡ true
+inside : (c : tie.Joined-then-kind-eq-TABLE) → starts_inside c.before.args.kind ≡ true
 unfolding starts_inside
 inside c =
     let k = c.before.args.kind in
@@ -19,17 +19,17 @@ inside c =
     (⊎_elim
     (λ w. rw (ne_eqb k Kind.table w.0.left, w.1.taken))
     (λ w. rw (ne_eqb k Kind.table w.0.left, w.1.left, w.2.taken)))
-    c.if1.branch
+    c.if-kind-eq-TABLE.branch
 
-returns : tie.Need-returns
+returns : tie.Need-returns-then-kind-eq-TABLE
 unfolding inner_line
 returns c = rw (inside c, inner_line)
 
-returns-2 : tie.Need-returns-2
+returns-2 : tie.Need-returns
 unfolding inner_line starts_inside
 returns-2 c =
     let k = c.before.before.before.args.kind in
-    rw (ne_eqb k Kind.table c.before.before.if1.false, c.before.if2.false, c.if3.false, inner_line)
+    rw (ne_eqb k Kind.table c.before.before.if-kind-eq-TABLE.false, c.before.if-kind-eq-LIST.false, c.if-kind-eq-ITEM.false, inner_line)
 
-pub inner-line-spec : {M : Type 1} → statement M
-inner-line-spec = tie.close (tie.spec (λ c. omega arith) returns (λ c. omega arith) (λ c. omega arith) returns-2)
+pub inner_line_spec : {M : Type 1} → statement M
+inner_line_spec = tie.close (tie.spec (λ c. omega arith) returns (λ c. omega arith) (λ c. omega arith) returns-2)

@@ -7,18 +7,18 @@ use Rattle.reading.specs.Walk.{inner_place}
 use Rattle.reading.proofs.walk.inner_place.Statement.{statement}
 use Rattle.reading.proofs.walk.inner_place.Tie as tie
 
-returns : tie.Need-returns
+returns : tie.Need-returns-then-tight
 unfolding inner_place
-returns c = rw (eq-eqb c.before.before.args.kind Kind.item c.before.if1.true, c.if2.true, inner_place)
+returns c = rw (eq-eqb c.before.before.args.kind Kind.item c.before.if-kind-eq-ITEM.true, c.if-tight.true, inner_place)
 
-returns-2 : tie.Need-returns-2
+returns-2 : tie.Need-returns-else-kind-eq-ITEM
 unfolding inner_place
 returns-2 c =
     let k = c.before.args.kind in
     ⊎_elim
     (λ w. rw (eq-eqb k Kind.item w.0.taken, w.1.left, inner_place))
     (λ w. rw (ne_eqb k Kind.item w.left, inner_place))
-    c.if1.branch
+    c.if-kind-eq-ITEM.branch
 
-pub inner-place-spec : {M : Type 1} → statement M
-inner-place-spec = tie.close (tie.spec returns returns-2)
+pub inner_place_spec : {M : Type 1} → statement M
+inner_place_spec = tie.close (tie.spec returns returns-2)

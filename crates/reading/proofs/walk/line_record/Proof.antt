@@ -11,40 +11,40 @@ use Rattle.reading.proofs.walk.line_record.Tie as tie
 
 -- ---- a row
 
-begins-with-requires : tie.Need-begins-with-requires
+begins-with-requires : tie.Need-begins_with-requires
 begins-with-requires c κs = let o = line_of-order _ _ _ c.before.before.before.requires.0 in (o.1, omega arith)
 
-returns : tie.Need-returns
+returns : tie.Need-returns-then-begins_with
 unfolding word
 returns c =
     let at_rows = c.before.before.before in
     let start = at_rows.before.before in
-    rw (at_rows.if1.true, start.requires.1) (rw c.if2.true at (row-tested _ _ _ start.args.parent start.requires.0 _ c.before.begins-with.ensures))
+    rw (at_rows.if-rows.true, start.requires.1) (rw c.if-begins_with.true at (row-tested _ _ _ start.args.parent start.requires.0 _ c.before.begins_with.ensures))
 
-returns-2 : tie.Need-returns-2
+returns-2 : tie.Need-returns-else-begins_with
 unfolding word
 returns-2 c =
     let at_rows = c.before.before.before in
     let start = at_rows.before.before in
-    rw (at_rows.if1.true, start.requires.1) (rw c.if2.false at (row-tested _ _ _ start.args.parent start.requires.0 _ c.before.begins-with.ensures))
+    rw (at_rows.if-rows.true, start.requires.1) (rw c.if-begins_with.false at (row-tested _ _ _ start.args.parent start.requires.0 _ c.before.begins_with.ensures))
 
 -- ---- a node property
 
-word-end-requires : tie.Need-word-end-requires
+word-end-requires : tie.Need-word_end-marker-requires
 word-end-requires c κs = let o = line_of-order _ _ _ c.before.before.requires.0 in (o.1, omega arith)
 
-run-end-requires : tie.Need-run-end-requires
+run-end-requires : tie.Need-run_end-requires
 run-end-requires c κs =
     let line = c.before.before.before.requires.0 in
     let o = line_of-order _ _ _ line in
-    ((first_run-order _ _ _ line _ c.word-end.ensures).1, omega arith)
+    ((first_run-order _ _ _ line _ c.word_end-marker.ensures).1, omega arith)
 
-returns-3 : tie.Need-returns-3
+returns-3 : tie.Need-returns
 returns-3 c =
     let at_rows = c.before.before in
     let (line, number) = at_rows.before.before.requires in
-    rw (at_rows.if1.false, number) (property-record _ _ _ _ line _ _ c.before.word-end.ensures c.run-end.ensures)
+    rw (at_rows.if-rows.false, number) (property-record _ _ _ _ line _ _ c.before.word_end-marker.ensures c.run_end.ensures)
 
-pub line-record-spec : {M : Type 1} → statement M
-line-record-spec =
+pub line_record_spec : {M : Type 1} → statement M
+line_record_spec =
     tie.close (tie.spec (λ c. search rules) begins-with-requires returns returns-2 word-end-requires run-end-requires returns-3)

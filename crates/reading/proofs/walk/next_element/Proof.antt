@@ -40,50 +40,50 @@ unfolding element_at
 element-is s p e l pl b m r h j i = let k = line_span-start s l p e h in i.is ∙ rw (k, j)
 
 -- the line at `at` is one of the scope
-line : (c : tie.After-line-at) → let a = c.before.before.args in InScope a.text.now c.line_at.result (scope_of a.to a.place a.ends a.names)
+line : (c : tie.After-line_at-line) → let a = c.before.before.args in InScope a.text.now c.line_at-line.result (scope_of a.to a.place a.ends a.names)
 line c =
     let pre = c.before.before.requires in
-    let is = c.line_at.ensures in
+    let is = c.line_at-line.ensures in
     record { line = line_of _ _ _ _ pre.1 pre.0.range.text is; known = rw (line_span-start _ _ _ _ is) pre.0.known }
 
 -- what is found there
-here : (c : tie.Joined1) → let a = c.before.before.before.args in
-    c.if1.parsed.element ≡ spanned a.at (lines_in a.text.now a.at a.to) (found_in a.items a.text.now a.at a.to)
+here : (c : tie.Joined-items) → let a = c.before.before.before.args in
+    c.if-items.parsed.element ≡ spanned a.at (lines_in a.text.now a.at a.to) (found_in a.items a.text.now a.at a.to)
 here c =
     let pre = c.before.before.before.requires in
-    let at-line = c.before.line_at.ensures in
+    let at-line = c.before.line_at-line.ensures in
     ⊎_elim
     (λ w. ap (λ (r : Parsed). r.element) w.2 ∙ rw w.0.taken (item-is _ _ _ _ _ _ _ _ at-line w.1.ensures))
     (λ w. ap (λ (r : Parsed). r.element) w.2 ∙ rw w.0.left (element-is _ _ _ _ _ _ _ _ at-line (pre.0.place w.0.left pre.1) w.1.ensures))
-    c.if1.branch
+    c.if-items.branch
 
-known : (c : tie.Joined1) → let a = c.before.before.before.args in
-    Knows a.text.now c.if1.parsed.element.end a.to c.if1.parsed.ends c.if1.parsed.names
-known c = ⊎_elim (λ w. rw w.2 w.1.ensures.known) (λ w. rw w.2 w.1.ensures.known) c.if1.branch
+known : (c : tie.Joined-items) → let a = c.before.before.before.args in
+    Knows a.text.now c.if-items.parsed.element.end a.to c.if-items.parsed.ends c.if-items.parsed.names
+known c = ⊎_elim (λ w. rw w.2 w.1.ensures.known) (λ w. rw w.2 w.1.ensures.known) c.if-items.branch
 
-steps : (c : tie.Joined1) → let start = c.before.before.before in let a = start.args in
+steps : (c : tie.Joined-items) → let start = c.before.before.before in let a = start.args in
     Stepped a.items a.text.now a.at a.to start.requires.1
 steps c = let pre = c.before.before.before.requires in stepped _ _ _ _ pre.1 pre.0.range pre.0.all
 
-first-line-requires : tie.Need-first-line-requires
+first-line-requires : tie.Need-first_line-next-requires
 first-line-requires c κs =
     let at-if = c.before in
     let pre = at-if.before.before.before.requires in
     ((step_end _ _ _ _ _ (steps at-if) _ (here at-if)).1, pre.0.range.text)
 
-number-le : (c : tie.After-shared-slice-known) → c.before.args.number ≤ length c.before.args.text.now
+number-le : (c : tie.After-shared_slice_known-1) → c.before.args.number ≤ length c.before.args.text.now
 number-le c =
     let pre = c.before.requires in
     let text = pre.0.range.text in
     omega (arith, pre.2, line_number-le c.before.args.text.now c.before.args.at)
 
 -- so many lines are its own and blank
-lines : (c : tie.After-first-line) → let at-if = c.before.before in let a = at-if.before.before.before.args in
-    let n = at-if.if1.parsed.element.own + c.first-line.result.lines in
+lines : (c : tie.After-first_line-next) → let at-if = c.before.before in let a = at-if.before.before.before.args in
+    let n = at-if.if-items.parsed.element.own + c.first_line-next.result.lines in
     let s = a.text.now in
-    let b = c.first-line.result.at in
+    let b = c.first_line-next.result.at in
     (n ≤ length s) × (b < length s → line_number s b ≡ line_number s a.at + n)
-lines c = let at-if = c.before.before in step_lines _ _ _ _ _ (steps at-if) _ (here at-if) _ c.first-line.ensures.0 _ c.first-line.ensures.1
+lines c = let at-if = c.before.before in step_lines _ _ _ _ _ (steps at-if) _ (here at-if) _ c.first_line-next.ensures.0 _ c.first_line-next.ensures.1
 
 returns : tie.Need-returns
 returns c =
@@ -92,7 +92,7 @@ returns c =
     let (range, some, number) = at-if.before.before.before.requires in
     let is = here at-if in
     let S = steps at-if in
-    let next = at_first.first-line.ensures.0 in
+    let next = at_first.first_line-next.ensures.0 in
     record {
       here = is;
       next = next;
@@ -106,11 +106,11 @@ returns c =
       };
     }
 
-limit : (c : tie.After-line-at) → let a = c.before.before.args in a.to ≤ text_limit
+limit : (c : tie.After-line_at-line) → let a = c.before.before.args in a.to ≤ text_limit
 limit c = let range = c.before.before.requires.0.range in omega (arith, range.text, range.limit)
 
-pub next-element-spec : {M : Type 1} → statement M
-next-element-spec =
+pub next_element_spec : {M : Type 1} → statement M
+next_element_spec =
     tie.close
     (tie.spec
     (λ c κs. search rules)

@@ -17,63 +17,63 @@ use Rattle.reading.proofs.Laws.Turns.{section-none, section-turn}
 use Rattle.reading.proofs.walk.read_section.Statement.{statement}
 use Rattle.reading.proofs.walk.read_section.Tie as tie
 
-first-line-requires : tie.Need-first-line-requires
+first-line-requires : tie.Need-first_line-first-requires
 first-line-requires c κs = let at = c.before.before.requires.0 in section-end _ _ _ at.limit at.start at.end
 
 -- what holds of the first line, `at`
-module _ (c : tie.After-first-line) where
+module _ (c : tie.After-first_line-first) where
   abbrev start : tie.Start
   start = c.before.before.before
 
-  order : (start.args.from ≤ c.first-line.result.at) × (c.first-line.result.at ≤ start.args.to) × (start.args.to ≤ length start.args.text.now)
+  order : (start.args.from ≤ c.first_line-first.result.at) × (c.first_line-first.result.at ≤ start.args.to) × (start.args.to ≤ length start.args.text.now)
   order =
       let at = start.pre.0 in
       let end = section-end _ _ _ at.limit at.start at.end in
-      let first = section-first _ _ _ at.limit at.start at.end _ c.first-line.ensures.0 in
+      let first = section-first _ _ _ at.limit at.start at.end _ c.first_line-first.ensures.0 in
       omega arith
 
-  range : Range start.args.text.now c.first-line.result.at start.args.to
-  range = let at = start.pre.0 in section-range _ _ _ at.limit at.start at.end _ c.first-line.ensures.0
+  range : Range start.args.text.now c.first_line-first.result.at start.args.to
+  range = let at = start.pre.0 in section-range _ _ _ at.limit at.start at.end _ c.first_line-first.ensures.0
 
   -- the line number there, of what is in the text
-  number : c.first-line.result.at < length start.args.text.now
-      → start.args.number + c.first-line.result.lines ≡ line_number start.args.text.now c.first-line.result.at
+  number : c.first_line-first.result.at < length start.args.text.now
+      → start.args.number + c.first_line-first.result.lines ≡ line_number start.args.text.now c.first_line-first.result.at
   number i =
       let at = start.pre.0 in
-      section-number _ _ _ at.limit at.start at.end _ c.first-line.ensures.0 _ c.first-line.ensures.1 _ start.pre.3 i
+      section-number _ _ _ at.limit at.start at.end _ c.first_line-first.ensures.0 _ c.first_line-first.ensures.1 _ start.pre.3 i
 
-  number_small : start.args.number + c.first-line.result.lines ≤ far + length start.args.text.now
+  number_small : start.args.number + c.first_line-first.result.lines ≤ far + length start.args.text.now
   number_small =
       let at = start.pre.0 in
-      omega (arith, start.pre.4, section-blanks _ _ _ at.limit at.start at.end _ c.first-line.ensures.1)
+      omega (arith, start.pre.4, section-blanks _ _ _ at.limit at.start at.end _ c.first_line-first.ensures.1)
 
-placed : (c : tie.After-first-place) → let at_first = c.before.before.before in
-    c.first-place.result ≡ place_at (start at_first).args.text.now at_first.first-line.result.at
+placed : (c : tie.After-first_place-here) → let at_first = c.before.before.before in
+    c.first_place-here.result ≡ place_at (start at_first).args.text.now at_first.first_line-first.result.at
 placed c =
     let at_first = c.before.before.before in
     let at = (start at_first).requires.0 in
-    c.first-place.ensures ∙ section-place _ _ _ at.limit at.start at.end _ at_first.first-line.ensures.0 _ at.place
+    c.first_place-here.ensures ∙ section-place _ _ _ at.limit at.start at.end _ at_first.first_line-first.ensures.0 _ at.place
 
-returns : tie.Need-returns
+returns : tie.Need-returns-then-to-at
 returns c =
     let at_first = c.before.before in
     let bounds = order at_first in
-    let same : at_first.first-line.result.at ≡ (start at_first).args.to = omega arith in (
-      section-none _ _ _ _ _ _ (start at_first).requires.0.end at_first.first-line.ensures.0 c.if1.true,
+    let same : at_first.first_line-first.result.at ≡ (start at_first).args.to = omega arith in (
+      section-none _ _ _ _ _ _ (start at_first).requires.0.end at_first.first_line-first.ensures.0 c.if-to-at.true,
       (omega arith, λ i. number at_first (omega arith) ∙ ap (line_number _) same),
     )
 
-emit-requires : tie.Need-emit-requires
+emit-requires : tie.Need-emit-out-requires
 emit-requires c κs =
     let at_test = c.before.before in
     let at_first = at_test.before.before in
     let bounds = order at_first in
-    let some = at_test.if1.false in
+    let some = at_test.if-to-at.false in
     let line = number at_first (omega arith) in
-    let small = line_number-le (start at_first).args.text.now at_first.first-line.result.at in
+    let small = line_number-le (start at_first).args.text.now at_first.first_line-first.result.at in
     search rules
 
-read-elements-requires : tie.Need-read-elements-requires
+read-elements-requires : tie.Need-read_elements-requires
 read-elements-requires c κs =
     let at_place = c.before.before.before.before.before in
     let at_first = at_place.before.before.before in
@@ -85,7 +85,7 @@ read-elements-requires c κs =
       λ h. number at_first (omega arith),
     )
 
-returns-2 : tie.Need-returns-2
+returns-2 : tie.Need-returns
 returns-2 c =
     let at_read = c.before.before in
     let at-emit = at_read.before.before.before.before in
@@ -93,14 +93,14 @@ returns-2 c =
     let at_first = at_test.before.before in
     let bounds = order at_first in
     let line = number at_first (omega arith) in (
-      at_read.read-elements.ensures.0
-          ∙ section-turn _ _ _ _ _ _ (start at_first).requires.0.end at_first.first-line.ensures.0 _ at_test.if1.false
-          (rw line at at-emit.emit.ensures.0),
-      (omega (arith, at_read.read-elements.ensures.1.0), (at_read.read-elements.ensures.1.1 at_test.if1.false).1),
+      at_read.read_elements.ensures.0
+          ∙ section-turn _ _ _ _ _ _ (start at_first).requires.0.end at_first.first_line-first.ensures.0 _ at_test.if-to-at.false
+          (rw line at at-emit.emit-out.ensures.0),
+      (omega (arith, at_read.read_elements.ensures.1.0), (at_read.read_elements.ensures.1.1 at_test.if-to-at.false).1),
     )
 
-pub read-section-spec : {M : Type 1} → statement M
-read-section-spec =
+pub read_section_spec : {M : Type 1} → statement M
+read_section_spec =
     tie.close
     (tie.spec
     first-line-requires

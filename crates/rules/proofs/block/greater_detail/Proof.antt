@@ -7,24 +7,24 @@ use Rattle.rules.specs.Elements.{greater_detail}
 use Rattle.rules.proofs.block.greater_detail.Statement.{statement}
 use Rattle.rules.proofs.block.greater_detail.Tie as tie
 
-returns : tie.Need-returns
+returns : tie.Need-returns-then-is_word
 unfolding greater_detail word
-returns c = rw (sym c.before.is_IsWord.ensures ∙ c.if1.true, greater_detail)
+returns c = rw (sym c.before.is_IsWord.ensures ∙ c.if-is_word.true, greater_detail)
 
-returns-2 : tie.Need-returns-2
+returns-2 : tie.Need-returns-then-is_word-2
 unfolding greater_detail word
 returns-2 c =
     let at_first = c.before.before.before in
-    rw (sym at_first.before.is_IsWord.ensures ∙ at_first.if1.false, sym c.before.is-word2.ensures ∙ c.if2.true, greater_detail)
+    rw (sym at_first.before.is_IsWord.ensures ∙ at_first.if-is_word.false, sym c.before.is_word-2.ensures ∙ c.if-is_word-2.true, greater_detail)
 
-returns-3 : tie.Need-returns-3
+returns-3 : tie.Need-returns
 unfolding greater_detail word
 returns-3 c =
     let at_first = c.before.before.before in
-    rw (sym at_first.before.is_IsWord.ensures ∙ at_first.if1.false, sym c.before.is-word2.ensures ∙ c.if2.false, greater_detail)
+    rw (sym at_first.before.is_IsWord.ensures ∙ at_first.if-is_word.false, sym c.before.is_word-2.ensures ∙ c.if-is_word-2.false, greater_detail)
 
-pub greater-detail-spec : {M : Type 1} → statement M
-greater-detail-spec =
+pub greater_detail_spec : {M : Type 1} → statement M
+greater_detail_spec =
     tie.close
     (tie.spec
     (λ c. search rules)

@@ -21,77 +21,77 @@ use Rattle.rules.proofs.Laws.Blocks.{block_no, begin-order, name-order, block-un
 use Rattle.rules.proofs.block.try_block.Statement.{statement}
 use Rattle.rules.proofs.block.try_block.Tie as tie
 
-begins-with-requires : tie.Need-begins-with-requires
+begins-with-requires : tie.Need-begins_with-requires
 begins-with-requires c κs = let o = line_of-order _ _ _ c.before.before.requires.line in (o.1, omega arith)
 
-returns : tie.Need-returns
+returns : tie.Need-returns-then-not-begins_with
 unfolding word
-returns c = block_no _ _ _ c.before.before.before.before.requires.line (sym c.before.begins-with.ensures ∙ not-true _ c.if1.true)
+returns c = block_no _ _ _ c.before.before.before.before.requires.line (sym c.before.begins_with.ensures ∙ not-true _ c.if-not-begins_with.true)
 
 -- the body begins so
-begin : (c : tie.Else1) → let start = c.before.before.before.before in
+begin : (c : tie.Else-not-begins_with) → let start = c.before.before.before.before in
     begins (part start.args.text.now start.args.line.from start.args.line.to) (word "#+begin_") ≡ true
 unfolding word
-begin c = sym c.before.begins-with.ensures ∙ not-false _ c.if1.false
+begin c = sym c.before.begins_with.ensures ∙ not-false _ c.if-not-begins_with.false
 
-name : (c : tie.Else1) → let args = c.before.before.before.before.args in
+name : (c : tie.Else-not-begins_with) → let args = c.before.before.before.before.args in
     (args.line.from + 8 ≤ args.line.to) × (args.line.to ≤ length args.text.now)
 name c = begin-order _ _ _ c.before.before.before.before.requires.line (begin c)
 
-returns-2 : tie.Need-returns-2
+returns-2 : tie.Need-returns-then-to-name
 returns-2 c =
     let at_name = c.before in
     let at-begin = at_name.before.before in
-    block-unnamed _ _ _ at-begin.before.before.before.before.requires.line (begin at-begin) _ at_name.word-end.ensures c.if2.true
+    block-unnamed _ _ _ at-begin.before.before.before.before.requires.line (begin at-begin) _ at_name.word_end-to.ensures c.if-to-name.true
 
 -- the name's end
-ends : (c : tie.After-word-end) → let args = c.before.before.before.before.before.before.args in
-    (args.line.from + 8 ≤ c.word-end.result) × (c.word-end.result ≤ args.line.to) × (args.line.to ≤ length args.text.now)
+ends : (c : tie.After-word_end-to) → let args = c.before.before.before.before.before.before.args in
+    (args.line.from + 8 ≤ c.word_end-to.result) × (c.word_end-to.result ≤ args.line.to) × (args.line.to ≤ length args.text.now)
 ends c =
     let at-begin = c.before.before in
-    name-order _ _ _ at-begin.before.before.before.before.requires.line (begin at-begin) _ c.word-end.ensures
+    name-order _ _ _ at-begin.before.before.before.before.requires.line (begin at-begin) _ c.word_end-to.ensures
 
 -- no closer may stand ahead
-returns-3 : tie.Need-returns-3
+returns-3 : tie.Need-returns-then-not-has_name
 returns-3 c =
     let at_test = c.before.before.before.before in
     let at_name = at_test.before in
     let at-begin = at_name.before.before in
     let pre = at-begin.before.before.before.before.requires in
-    block-open _ _ _ pre.line (begin at-begin) _ at_name.word-end.ensures at_test.if2.false
-    ((knows-next _ _ _ _ _ pre.line pre.known).names _ (sym c.before.has-name.ensures ∙ not-true _ c.if4.true))
+    block-open _ _ _ pre.line (begin at-begin) _ at_name.word_end-to.ensures at_test.if-to-name.false
+    ((knows-next _ _ _ _ _ pre.line pre.known).names _ (sym c.before.has_name.ensures ∙ not-true _ c.if-not-has_name.true))
 
-find-closer-requires : tie.Need-find-closer-requires
+find-closer-requires : tie.Need-find_closer-search-requires
 unfolding word
 find-closer-requires c κs =
     let at_name = c.before.before.before.before.before in
     let at-begin = at_name.before.before in
     let start = at-begin.before.before.before.before in
     let o = line_of-order _ _ _ start.requires.line in
-    (o.4, o.5, rw (part_slice _ _ _ (ends at_name).0) (closer-bytes _ _ _ start.requires.line (begin at-begin) _ at_name.word-end.ensures))
+    (o.4, o.5, rw (part_slice _ _ _ (ends at_name).0) (closer-bytes _ _ _ start.requires.line (begin at-begin) _ at_name.word_end-to.ensures))
 
 -- the closer of the name
-closer : (c : tie.After-find-closer) →
+closer : (c : tie.After-find_closer-search) →
     let at_name = c.before.before.before.before.before.before in
     let args = at_name.before.before.before.before.before.before.args in
     let s = args.text.now in
-    c.find-closer.result.closer ≡ closer_in (word "#+end_" ++ part s (args.line.from + 8) at_name.word-end.result) s args.line.end args.scope.end
+    c.find_closer-search.result.closer-1 ≡ closer_in (word "#+end_" ++ part s (args.line.from + 8) at_name.word_end-to.result) s args.line.end args.scope.end
 unfolding word
-closer c = rw (part_slice _ _ _ (ends c.before.before.before.before.before.before).0) at (searched-closer _ _ _ _ _ c.find-closer.ensures)
+closer c = rw (part_slice _ _ _ (ends c.before.before.before.before.before.before).0) at (searched-closer _ _ _ _ _ c.find_closer-search.ensures)
 
-returns-4 : tie.Need-returns-4
+returns-4 : tie.Need-returns-in_default
 returns-4 c =
     let at-closer = c.before.before in
     let at_test = at-closer.before.before.before.before.before in
     let at_name = at_test.before in
     let at-begin = at_name.before.before in
-    block-open _ _ _ at-begin.before.before.before.before.requires.line (begin at-begin) _ at_name.word-end.ensures at_test.if2.false
-    (closer_at-nothing _ _ _ (sym c.enum_told.given.1 ∙ closer at-closer))
+    block-open _ _ _ at-begin.before.before.before.before.requires.line (begin at-begin) _ at_name.word_end-to.ensures at_test.if-to-name.false
+    (closer_at-nothing _ _ _ (sym c.enum_told-1.given.1 ∙ closer at-closer))
 
 -- so many lines stand before it
-count : (c : tie.After-known-told) →
+count : (c : tie.In-At) →
     let args = c.before.before.before.before.before.before.before.before.before.before.before.before.before.before.before.args in
-    c.before.closer.given.0.1.1.0 + 2 ≤ length args.text.now + 2
+    c.before.closer-1.given.0.1.1.0 + 2 ≤ length args.text.now + 2
 count c =
     let at-closer = c.before.before.before in
     let start = at-closer.before.before.before.before.before.before.before.before.before.before.before.before in
@@ -102,11 +102,11 @@ count c =
     let ls = lines_in s l.end e in
     omega (
       arith,
-      closer-count l.end ls _ (lines_before-below _ ls) _ _ _ (sym c.before.closer.given.1 ∙ closer at-closer),
+      closer-count l.end ls _ (lines_before-below _ ls) _ _ _ (sym c.before.closer-1.given.1 ∙ closer at-closer),
       lines_in-length s l.end e o.4 o.5,
     )
 
-returns-5 : tie.Need-returns-5
+returns-5 : tie.Need-returns-then-verbatim-gt0
 returns-5 c =
     let at-detail = c.before in
     let at-close = at-detail.before.before in
@@ -114,10 +114,10 @@ returns-5 c =
     let at_test = at-closer.before.before.before.before.before in
     let at_name = at_test.before in
     let at-begin = at_name.before.before in
-    block-verbatim _ _ _ at-begin.before.before.before.before.requires.line (begin at-begin) _ at_name.word-end.ensures at_test.if2.false _
-    (sym at-close.closer.given.1 ∙ closer at-closer) _ at-detail.verbatim-detail.ensures c.if5.true
+    block-verbatim _ _ _ at-begin.before.before.before.before.requires.line (begin at-begin) _ at_name.word_end-to.ensures at_test.if-to-name.false _
+    (sym at-close.closer-1.given.1 ∙ closer at-closer) _ at-detail.verbatim_detail-verbatim.ensures c.if-verbatim-gt0.true
 
-returns-6 : tie.Need-returns-6
+returns-6 : tie.Need-returns
 returns-6 c =
     let at-detail = c.before.before in
     let at-close = at-detail.before.before in
@@ -125,11 +125,11 @@ returns-6 c =
     let at_test = at-closer.before.before.before.before.before in
     let at_name = at_test.before in
     let at-begin = at_name.before.before in
-    block-greater _ _ _ at-begin.before.before.before.before.requires.line (begin at-begin) _ at_name.word-end.ensures at_test.if2.false _
-    (sym at-close.closer.given.1 ∙ closer at-closer) _ at-detail.verbatim-detail.ensures c.before.if5.false _ c.greater-detail.ensures
+    block-greater _ _ _ at-begin.before.before.before.before.requires.line (begin at-begin) _ at_name.word_end-to.ensures at_test.if-to-name.false _
+    (sym at-close.closer-1.given.1 ∙ closer at-closer) _ at-detail.verbatim_detail-verbatim.ensures c.before.if-verbatim-gt0.false _ c.greater_detail.ensures
 
-pub try-block-spec : {M : Type 1} → statement M
-try-block-spec =
+pub try_block_spec : {M : Type 1} → statement M
+try_block_spec =
     tie.close
     (tie.spec
     (λ c. search rules)

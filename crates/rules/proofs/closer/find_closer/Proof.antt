@@ -26,11 +26,11 @@ use Rattle.rules.proofs.Laws.Closers.{Matched, matched-start, matched-yes, match
 use Rattle.rules.proofs.closer.find_closer.Statement.{statement}
 use Rattle.rules.proofs.closer.find_closer.Tie as tie
 
-abbrev invariant-loop : tie.invariant-loop
-invariant-loop text from to first second size mark at n compared body j₀ j = Matched (first ++ second) text at to (body + j) j
+abbrev invariant-loop-j : tie.invariant-loop-j
+invariant-loop-j text from to first second size mark at n compared body j₀ j = Matched (first ++ second) text at to (body + j) j
 
-abbrev decreases-loop : tie.decreases-loop
-decreases-loop text from to first second size mark at n compared body j₀ j = to - body - j
+abbrev decreases-loop-j : tie.decreases-loop-j
+decreases-loop-j text from to first second size mark at n compared body j₀ j = to - body - j
 
 abbrev invariant-lines : tie.invariant-lines
 invariant-lines text from to first second size mark at₀ n₀ compared₀ at n compared =
@@ -42,7 +42,7 @@ decreases-lines text from to first second size mark at₀ n₀ compared₀ at n 
 
 -- ---- the mark of the line at `at`
 
-starts : (c : tie.After-starts-with invariant-loop decreases-loop invariant-lines decreases-lines) →
+starts : (c : tie.After-starts_with invariant-loop-j decreases-loop-j invariant-lines decreases-lines) →
     let at-line = c.before.before in
     let at_key = at-line.before in
     let args = at_key.before.before.before.before.args in
@@ -50,30 +50,30 @@ starts : (c : tie.After-starts-with invariant-loop decreases-loop invariant-line
 starts c =
     let at-line = c.before.before in
     let args = at-line.before.before.before.before.before.args in
-    c.starts_with.ensures ∙ ap (λ m. starts_with m (line_in args.text.now at-line.lines.at args.to)) at-line.before.key-byte.ensures
+    c.starts_with.ensures ∙ ap (λ m. starts_with m (line_in args.text.now at-line.lines.at args.to)) at-line.before.key_byte-mark.ensures
 
-other : (c : tie.Then2 invariant-loop decreases-loop invariant-lines decreases-lines) →
+other : (c : tie.Then-not-starts_with invariant-loop-j decreases-loop-j invariant-lines decreases-lines) →
     let at-line = c.before.before.before in
     let args = at-line.before.before.before.before.before.args in
     starts_with (key_byte (args.first.now ++ args.second.now) 0) (line_in args.text.now at-line.lines.at args.to) ≡ false
-other c = sym (starts c.before) ∙ not-true _ c.if2.true
+other c = sym (starts c.before) ∙ not-true _ c.if-not-starts_with.true
 
-marked : (c : tie.Else2 invariant-loop decreases-loop invariant-lines decreases-lines) →
+marked : (c : tie.Else-not-starts_with invariant-loop-j decreases-loop-j invariant-lines decreases-lines) →
     let at-line = c.before.before.before in
     let args = at-line.before.before.before.before.before.args in
     starts_with (key_byte (args.first.now ++ args.second.now) 0) (line_in args.text.now at-line.lines.at args.to) ≡ true
-marked c = sym (starts c.before) ∙ not-false _ c.if2.false
+marked c = sym (starts c.before) ∙ not-false _ c.if-not-starts_with.false
 
 -- ---- a line without it
 
-lines-less : tie.Need-lines-smaller invariant-loop decreases-loop invariant-lines decreases-lines
+lines-less : tie.Need-lines-smaller-then-not-starts_with invariant-loop-j decreases-loop-j invariant-lines decreases-lines
 lines-less c =
     let at_some = c.before.before.before in
     let at-line = at_some.before in
     let start = at-line.before.before.before.before.before in
-    omega (arith, line_in-some start.args.text.now at-line.lines.at start.args.to at_some.if1.false start.requires.1)
+    omega (arith, line_in-some start.args.text.now at-line.lines.at start.args.to at_some.if-to-at.false start.requires.1)
 
-lines-again : tie.Need-lines-preserved invariant-loop decreases-loop invariant-lines decreases-lines
+lines-again : tie.Need-lines-preserved-then-not-starts_with invariant-loop-j decreases-loop-j invariant-lines decreases-lines
 lines-again c =
     let at_some = c.before.before.before in
     let at-line = at_some.before in
@@ -82,56 +82,56 @@ lines-again c =
     let s = start.args.text.now in
     let p = at-line.lines.at in
     let e = start.args.to in
-    let end = c.line-end.ensures in
+    let end = c.line_end-at.ensures in
     let no = starts_with-no _ _ start.requires.2 (other c.before) in (
       omega (arith, line_in-to s p e (omega arith) (omega arith)),
-      omega (arith, line_in-some s p e at_some.if1.false start.requires.1),
-      rw end (further-one _ _ ∙ ap (further _) (sym (closer-pass _ _ _ _ at_some.if1.false start.requires.1 no))) ∙ inv.2,
+      omega (arith, line_in-some s p e at_some.if-to-at.false start.requires.1),
+      rw end (further-one _ _ ∙ ap (further _) (sym (closer-pass _ _ _ _ at_some.if-to-at.false start.requires.1 no))) ∙ inv.2,
       omega arith,
-      rw end (ap (λ m. at-line.lines.compared + m) (sym (compared-skip _ _ _ _ at_some.if1.false start.requires.1 start.requires.2 (other c.before)))) ∙ inv.4,
+      rw end (ap (λ m. at-line.lines.compared + m) (sym (compared-skip _ _ _ _ at_some.if-to-at.false start.requires.1 start.requires.2 (other c.before)))) ∙ inv.4,
     )
 
 -- ---- a line with it, byte by byte
 
-loop-holds : tie.Need-loop-init invariant-loop decreases-loop invariant-lines decreases-lines
-loop-holds c = rw (add-zero _) (matched-start _ _ _ _ _ (omega arith) (omega arith) c.run-end.ensures)
+loop-holds : tie.Need-loop-j-init invariant-loop-j decreases-loop-j invariant-lines decreases-lines
+loop-holds c = rw (add-zero _) (matched-start _ _ _ _ _ (omega arith) (omega arith) c.run_end-body.ensures)
 
-trim-end-requires : tie.Need-trim-end-requires invariant-loop decreases-loop invariant-lines decreases-lines
+trim-end-requires : tie.Need-trim_end-requires invariant-loop-j decreases-loop-j invariant-lines decreases-lines
 trim-end-requires c κs =
     let at-loop = c.before.before in
     let start = at-loop.before.before.before.before.before.before.before.before.before.before in
     omega (
       arith,
-      line_in-to start.args.text.now (at-loop.before.run-end.result + at-loop.loop.j) start.args.to
-          at-loop.loop.invariant.within start.requires.1,
+      line_in-to start.args.text.now (at-loop.before.run_end-body.result + at-loop.loop-j.j) start.args.to
+          at-loop.loop-j.invariant.within start.requires.1,
     )
 
-loop-again : tie.Need-loop-preserved invariant-loop decreases-loop invariant-lines decreases-lines
+loop-again : tie.Need-loop-j-preserved invariant-loop-j decreases-loop-j invariant-lines decreases-lines
 loop-again c =
     let key-byte = c.before in
     let text-byte = key-byte.before in
     let at-loop = text-byte.before.before.before.before in
     let start = at-loop.before.before.before.before.before.before.before.before.before.before in
     rw (← add_assoc _ _ 1)
-    (matched-step _ _ _ _ _ _ at-loop.loop.invariant (rw length-append (omega arith)) (omega arith) (omega arith) start.requires.2.nonblank
-    (sym text-byte.lower.ensures ∙ c.if6.false ∙ key-byte.key-byte2.ensures))
+    (matched-step _ _ _ _ _ _ at-loop.loop-j.invariant (rw length-append (omega arith)) (omega arith) (omega arith) start.requires.2.nonblank
+    (sym text-byte.lower.ensures ∙ c.if-lower-key_byte.false ∙ key-byte.key_byte.ensures))
 
 -- where the loop over bytes is left by a plain `break`, the line is no closer
-differs : (c : tie.Joined3 invariant-loop decreases-loop invariant-lines decreases-lines) →
+differs : (c : tie.Joined-size-j invariant-loop-j decreases-loop-j invariant-lines decreases-lines) →
     let at-line = c.before.before.before.before.before.before in
     let args = at-line.before.before.before.before.before.args in
     same (body (line_in args.text.now at-line.lines.at args.to)) (args.first.now ++ args.second.now) ≡ false
 differs c =
-    let inv = c.before.loop.invariant in
+    let inv = c.before.loop-j.invariant in
     ⊎_elim
     (λ w. matched-no _ _ _ _ _ _ inv (rw length-append w.0.taken) _ _ w.1.ensures w.2.ensures w.3.left)
     (⊎_elim
     (λ w. matched-short _ _ _ _ _ _ inv (rw length-append w.0.left) (omega (arith, w.1.taken)))
     (λ w. matched-differ _ _ _ _ _ _ inv (rw length-append w.0.left) (omega (arith, w.1.left)) (omega arith)
     (λ e. w.5.taken (w.3.ensures ∙ e ∙ sym w.4.ensures))))
-    c.if3.branch
+    c.if-size-j.branch
 
-lines-less-2 : tie.Need-lines-smaller-2 invariant-loop decreases-loop invariant-lines decreases-lines
+lines-less-2 : tie.Need-lines-smaller invariant-loop-j decreases-loop-j invariant-lines decreases-lines
 lines-less-2 c =
     let at-loop = c.before.before in
     let at_some = at-loop.before.before.before.before in
@@ -139,12 +139,12 @@ lines-less-2 c =
     let start = at-line.before.before.before.before.before in
     omega (
       arith,
-      c.line-end3.ensures,
-      at-loop.loop.invariant.ends,
-      line_in-some start.args.text.now at-line.lines.at start.args.to at_some.if1.false start.requires.1,
+      c.line_end-at-in-lines.ensures,
+      at-loop.loop-j.invariant.ends,
+      line_in-some start.args.text.now at-line.lines.at start.args.to at_some.if-to-at.false start.requires.1,
     )
 
-lines-again-2 : tie.Need-lines-preserved-2 invariant-loop decreases-loop invariant-lines decreases-lines
+lines-again-2 : tie.Need-lines-preserved invariant-loop-j decreases-loop-j invariant-lines decreases-lines
 lines-again-2 c =
     let at-loop = c.before.before in
     let at_mark = at-loop.before.before in
@@ -156,27 +156,27 @@ lines-again-2 c =
     let p = at-line.lines.at in
     let e = start.args.to in
     let key = start.args.first.now ++ start.args.second.now in
-    let end = c.line-end3.ensures ∙ at-loop.loop.invariant.ends in
+    let end = c.line_end-at-in-lines.ensures ∙ at-loop.loop-j.invariant.ends in
     let no = differs c.before in (
       omega (arith, end, line_in-to s p e (omega arith) (omega arith)),
-      omega (arith, end, line_in-some s p e at_some.if1.false start.requires.1),
-      rw end (further-one _ _ ∙ ap (further _) (sym (closer-pass _ _ _ _ at_some.if1.false start.requires.1 no))) ∙ inv.2,
+      omega (arith, end, line_in-some s p e at_some.if-to-at.false start.requires.1),
+      rw end (further-one _ _ ∙ ap (further _) (sym (closer-pass _ _ _ _ at_some.if-to-at.false start.requires.1 no))) ∙ inv.2,
       omega arith,
-      rw end (omega (arith, compared-pass key s p e at_some.if1.false start.requires.1 (marked at_mark) no)) ∙ inv.4,
+      rw end (omega (arith, compared-pass key s p e at_some.if-to-at.false start.requires.1 (marked at_mark) no)) ∙ inv.4,
     )
 
 -- ---- the finding
 
-returns : tie.Need-returns invariant-loop decreases-loop invariant-lines decreases-lines
+returns : tie.Need-returns-then-to-at invariant-loop-j decreases-loop-j invariant-lines decreases-lines
 returns c =
     let at-line = c.before in
     let args = at-line.before.before.before.before.before.args in
     let inv = at-line.lines.invariant in
     searched-is _ _ _ _ _ _
-    (sym (further-nothing _) ∙ ap (further _) (sym (closer-none _ _ _ _ c.if1.true)) ∙ inv.2)
-    (omega (arith, inv.4, compared-none (args.first.now ++ args.second.now) args.text.now at-line.lines.at args.to c.if1.true))
+    (sym (further-nothing _) ∙ ap (further _) (sym (closer-none _ _ _ _ c.if-to-at.true)) ∙ inv.2)
+    (omega (arith, inv.4, compared-none (args.first.now ++ args.second.now) args.text.now at-line.lines.at args.to c.if-to-at.true))
 
-returns-2 : tie.Need-returns-2 invariant-loop decreases-loop invariant-lines decreases-lines
+returns-2 : tie.Need-returns-then-trim_end-body invariant-loop-j decreases-loop-j invariant-lines decreases-lines
 returns-2 c =
     let at-trim = c.before in
     let at-end = at-trim.before in
@@ -186,20 +186,20 @@ returns-2 c =
     let at-line = at_some.before in
     let start = at-line.before.before.before.before.before in
     let key = start.args.first.now ++ start.args.second.now in
-    let inv = at-loop.loop.invariant in
+    let inv = at-loop.loop-j.invariant in
     let yes =
-    matched-yes _ _ _ _ _ _ inv (rw length-append at-end.before.if3.true) _ _ at-end.line-end2.ensures at-trim.trim_end.ensures c.if4.true in
+    matched-yes _ _ _ _ _ _ inv (rw length-append at-end.before.if-size-j.true) _ _ at-end.line_end-end.ensures at-trim.trim_end.ensures c.if-trim_end-body.true in
     searched-is _ _ _ _ _ _
-    (rw (at-end.line-end2.ensures ∙ inv.ends)
-    (further-here _ _ _ ∙ ap (further _) (sym (closer-here _ _ _ _ at_some.if1.false start.requires.1 yes))) ∙ at-line.lines.invariant.2)
-    (omega (arith, at-line.lines.invariant.4, compared-here key start.args.text.now at-line.lines.at start.args.to at_some.if1.false start.requires.1 (marked at_mark) yes))
+    (rw (at-end.line_end-end.ensures ∙ inv.ends)
+    (further-here _ _ _ ∙ ap (further _) (sym (closer-here _ _ _ _ at_some.if-to-at.false start.requires.1 yes))) ∙ at-line.lines.invariant.2)
+    (omega (arith, at-line.lines.invariant.4, compared-here key start.args.text.now at-line.lines.at start.args.to at_some.if-to-at.false start.requires.1 (marked at_mark) yes))
 
-pub find-closer-spec : {M : Type 1} → statement M
-find-closer-spec =
+pub find_closer_spec : {M : Type 1} → statement M
+find_closer_spec =
     tie.close
     (tie.spec
-    invariant-loop
-    decreases-loop
+    invariant-loop-j
+    decreases-loop-j
     invariant-lines
     decreases-lines
     (λ c. omega arith)

@@ -6,13 +6,13 @@ use Rattle.text.specs.Runs.{word, all}
 use Rattle.rules.proofs.closer.find_end.Statement.{statement}
 use Rattle.rules.proofs.closer.find_end.Tie as tie
 
-find-closer-requires : tie.Need-find-closer-requires
+find-closer-requires : tie.Need-find_closer-requires
 unfolding all is_non_blank
 find-closer-requires c κs = search rules
 
 returns : tie.Need-returns
 unfolding word
-returns c = c.find-closer.ensures
+returns c = c.find_closer.ensures
 
-pub find-end-spec : {M : Type 1} → statement M
-find-end-spec = tie.close (tie.spec (λ c. search rules) (λ c. search rules) find-closer-requires returns)
+pub find_end_spec : {M : Type 1} → statement M
+find_end_spec = tie.close (tie.spec (λ c. search rules) (λ c. search rules) find-closer-requires returns)

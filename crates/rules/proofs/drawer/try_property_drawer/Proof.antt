@@ -17,37 +17,37 @@ use Rattle.rules.proofs.Laws.Properties.{property_drawer-no, property_drawer-clo
 use Rattle.rules.proofs.drawer.try_property_drawer.Statement.{statement}
 use Rattle.rules.proofs.drawer.try_property_drawer.Tie as tie
 
-returns : tie.Need-returns
-returns c = property_drawer-no _ _ _ c.before.before.before.requires.line _ (rw (sym c.before.allows-properties.ensures ∙ not-true _ c.if1.true))
+returns : tie.Need-returns-then-not-allows_properties
+returns c = property_drawer-no _ _ _ c.before.before.before.requires.line _ (rw (sym c.before.allows_properties.ensures ∙ not-true _ c.if-not-allows_properties.true))
 
-is-word-requires : tie.Need-is-word-requires
+is-word-requires : tie.Need-is_word-requires
 is-word-requires c κs = let o = line_of-order _ _ _ c.before.before.before.before.requires.line in (o.1, omega arith)
 
 -- the place allows it, so the line decides
-line : (c : tie.After-is-word) → let start = c.before.before.before.before.before in
-    (allows_properties start.args.scope.place && is_properties_line (line_in start.args.text.now start.args.line.start start.args.scope.end))
+line : (c : tie.After-is_word) → let start = c.before.before.before.before.before in
+    (allows_properties start.args.scope.place && is_properties_line (line_in start.args.text.now start.args.line.start-1 start.args.scope.end))
     ≡ c.is_IsWord.result
 unfolding word
 line c =
     let at_place = c.before.before in
     rw (
-      sym at_place.before.allows-properties.ensures ∙ not-false _ at_place.if1.false,
+      sym at_place.before.allows_properties.ensures ∙ not-false _ at_place.if-not-allows_properties.false,
       is_properties_line-part _ _ _ at_place.before.before.before.requires.line,
       c.is_IsWord.ensures,
     )
 
-returns-2 : tie.Need-returns-2
-returns-2 c = property_drawer-no _ _ _ c.before.before.before.before.before.before.requires.line _ (line c.before ∙ not-true _ c.if2.true)
+returns-2 : tie.Need-returns-then-not-is_word
+returns-2 c = property_drawer-no _ _ _ c.before.before.before.before.before.before.requires.line _ (line c.before ∙ not-true _ c.if-not-is_word.true)
 
-find-properties-end-requires : tie.Need-find-properties-end-requires
+find-properties-end-requires : tie.Need-find_properties_end-requires
 find-properties-end-requires c κs = let o = line_of-order _ _ _ c.before.before.before.before.before.before.requires.line in (o.4, o.5)
 
-returns-3 : tie.Need-returns-3
+returns-3 : tie.Need-returns-in_default
 returns-3 c =
     let at-closer = c.before.before in
     let at-line = at-closer.before in
-    property_drawer-closer _ _ _ at-line.before.before.before.before.before.before.requires.line _ (line at-line.before ∙ not-false _ at-line.if2.false) _
-    (sym c.enum_told.given.1 ∙ at-closer.find-properties-end.ensures)
+    property_drawer-closer _ _ _ at-line.before.before.before.before.before.before.requires.line _ (line at-line.before ∙ not-false _ at-line.if-not-is_word.false) _
+    (sym c.enum_told-1.given.1 ∙ at-closer.find_properties_end.ensures)
 
 add : tie.Need-overflow-add-t15
 add c =
@@ -60,19 +60,19 @@ add c =
     let ls = lines_in s l.end e in
     omega (
       arith,
-      closer-count l.end ls _ (properties_before-below ls) _ _ _ (sym c.before.start.given.1 ∙ at-closer.find-properties-end.ensures),
+      closer-count l.end ls _ (properties_before-below ls) _ _ _ (sym c.before.start-1.given.1 ∙ at-closer.find_properties_end.ensures),
       lines_in-length s l.end e o.4 o.5,
     )
 
-returns-4 : tie.Need-returns-4
+returns-4 : tie.Need-returns
 returns-4 c =
     let at-closer = c.before.before.before in
     let at-line = at-closer.before in
-    property_drawer-closer _ _ _ at-line.before.before.before.before.before.before.requires.line _ (line at-line.before ∙ not-false _ at-line.if2.false) _
-    (sym c.before.start.given.1 ∙ at-closer.find-properties-end.ensures)
+    property_drawer-closer _ _ _ at-line.before.before.before.before.before.before.requires.line _ (line at-line.before ∙ not-false _ at-line.if-not-is_word.false) _
+    (sym c.before.start-1.given.1 ∙ at-closer.find_properties_end.ensures)
 
-pub try-property-drawer-spec : {M : Type 1} → statement M
-try-property-drawer-spec =
+pub try_property_drawer_spec : {M : Type 1} → statement M
+try_property_drawer_spec =
     tie.close
     (tie.spec
     (λ c κs. search rules)

@@ -13,51 +13,51 @@ use Rattle.rules.proofs.Laws.FirstOf.{element-holds, element-list, element-fails
 use Rattle.rules.proofs.element.element_at.Statement.{statement}
 use Rattle.rules.proofs.element.element_at.Tie as tie
 
-returns : tie.Need-returns
+returns : tie.Need-returns-in-Holds
 returns c =
     let at-element = c.before in
     let at-rule = at-element.before.before in
     let at_place = at-rule.before.before in
-    let rules = sym at_place.allows-rules.ensures ∙ at-rule.before.if1.true in
-    let is = element-holds _ _ _ rules _ (sym at-element.e.given.1 ∙ at-rule.find-rule.ensures) in
+    let rules = sym at_place.allows_rules.ensures ∙ at-rule.before.if-allows_rules.true in
+    let is = element-holds _ _ _ rules _ (sym at-element.e-1.given.1 ∙ at-rule.find_rule.ensures) in
     record { is = is; known = knows-element _ _ _ _ _ at_place.before.before.requires.0.known _ _ is }
 
-is-item-requires : tie.Need-is-item-requires
+is-item-requires : tie.Need-is_item-requires
 is-item-requires c κs =
     let line = c.before.before.before.before.before.before.requires.0.line in
     let o = line_of-order _ _ _ line in
     (omega arith, o.5, line_of-from _ _ _ line)
 
-returns-2 : tie.Need-returns-2
+returns-2 : tie.Need-returns-then-is_item
 unfolding line_in
 returns-2 c =
     let at_item = c.before.before in
     let at_told = at_item.before in
     let at-rule = at_told.before.before in
     let at_place = at-rule.before.before in
-    let rules = sym at_place.allows-rules.ensures ∙ at-rule.before.if1.true in
-    let fails = sym at_told.enum_told.given.1 ∙ at-rule.find-rule.ensures in
-    let is = element-list _ _ _ rules fails (sym at_item.is-item.ensures ∙ c.before.if2.true) in
+    let rules = sym at_place.allows_rules.ensures ∙ at-rule.before.if-allows_rules.true in
+    let fails = sym at_told.enum_told-1.given.1 ∙ at-rule.find_rule.ensures in
+    let is = element-list _ _ _ rules fails (sym at_item.is_item.ensures ∙ c.before.if-is_item.true) in
     record { is = rw is c.list_at.ensures.is; known = c.list_at.ensures.known }
 
 -- no rule finds anything, or none is tried
-rest : (c : tie.Joined1) → let args = c.before.before.before.args in
+rest : (c : tie.Joined-allows_rules) → let args = c.before.before.before.args in
     let ls = lines_in args.text.now args.line.start args.scope.end in
     element args.scope.place ls ≡ paragraph ls
 unfolding line_in
 rest c =
-    let allows = sym c.before.allows-rules.ensures in
+    let allows = sym c.before.allows_rules.ensures in
     ⊎_elim
     (λ w. let (rules, found, m, told, item, other) = w in
     element-fails _ _ _ (allows ∙ rules.taken) (sym told.given.1 ∙ found.ensures) (sym item.ensures ∙ other.left))
     (λ w. element-rest _ _ (allows ∙ w.left))
-    c.if1.branch
+    c.if-allows_rules.branch
 
-returns-3 : tie.Need-returns-3
-returns-3 c = record { is = rw (rest c.before) c.paragraph-at.ensures.is; known = c.paragraph-at.ensures.known }
+returns-3 : tie.Need-returns
+returns-3 c = record { is = rw (rest c.before) c.paragraph_at.ensures.is; known = c.paragraph_at.ensures.known }
 
-pub element-at-spec : {M : Type 1} → statement M
-element-at-spec =
+pub element_at_spec : {M : Type 1} → statement M
+element_at_spec =
     tie.close
     (tie.spec
     (λ c κs. search rules)

@@ -10,17 +10,17 @@ use Rattle.rules.proofs.Laws.LineOf.{line_of-order, line_of-body}
 use Rattle.rules.proofs.element.first_byte.Statement.{statement}
 use Rattle.rules.proofs.element.first_byte.Tie as tie
 
-returns : tie.Need-returns
-returns c = ap (λ (x : List ℕ). get_or x 0 0) (sym (part-nil _ _ _ c.if1.true) ∙ line_of-body _ _ _ c.before.before.requires)
+returns : tie.Need-returns-then-line-from
+returns c = ap (λ (x : List ℕ). get_or x 0 0) (sym (part-nil _ _ _ c.if-line-from.true) ∙ line_of-body _ _ _ c.before.before.requires)
 
-shared-slice-read-result : tie.Need-shared-slice-read-result
+shared-slice-read-result : tie.Need-bounds-text-from
 shared-slice-read-result c = let o = line_of-order _ _ _ c.before.before.before.requires in omega arith
 
-returns-2 : tie.Need-returns-2
+returns-2 : tie.Need-returns-else-line-from
 returns-2 c =
     let line = c.before.before.before.requires in
     let o = line_of-order _ _ _ line in
-    ap (λ (x : List ℕ). get_or x 0 0) (sym (part-cons _ _ _ c.before.if1.false (omega arith)) ∙ line_of-body _ _ _ line)
+    ap (λ (x : List ℕ). get_or x 0 0) (sym (part-cons _ _ _ c.before.if-line-from.false (omega arith)) ∙ line_of-body _ _ _ line)
 
-pub first-byte-spec : {M : Type 1} → statement M
-first-byte-spec = tie.close (tie.spec shared-slice-read-result returns returns-2)
+pub first_byte_spec : {M : Type 1} → statement M
+first_byte_spec = tie.close (tie.spec shared-slice-read-result returns returns-2)

@@ -20,22 +20,22 @@ use Rattle.rules.proofs.element.paragraph_at.Tie as tie
 
 -- what is known after its first line
 
-ends : (c : tie.Joined1) → let args = c.before.before.before.args in
-    c.if1.ends ≡ false → NoLine (word ":end:") args.text.now args.line.end args.scope.end
+ends : (c : tie.Joined-first-eq58) → let args = c.before.before.before.args in
+    c.if-first-eq58.ends ≡ false → NoLine (word ":end:") args.text.now args.line.end args.scope.end
 ends c z =
     let pre = c.before.before.before.requires in
-    ⊎_elim (λ w. w.1.ensures (sym w.2 ∙ z)) (λ w. (knows-next _ _ _ _ _ pre.line pre.known).ends (sym w.1 ∙ z)) c.if1.branch
+    ⊎_elim (λ w. w.1.ensures (sym w.2 ∙ z)) (λ w. (knows-next _ _ _ _ _ pre.line pre.known).ends (sym w.1 ∙ z)) c.if-first-eq58.branch
 
-names : (c : tie.Joined2) → let args = c.before.before.before.before.args in
-    Names args.text.now args.line.end args.scope.end c.if2.names
+names : (c : tie.Joined-first-eq35) → let args = c.before.before.before.before.args in
+    Names args.text.now args.line.end args.scope.end c.if-first-eq35.names
 names c x z =
     let pre = c.before.before.before.before.requires in
     ⊎_elim
     (λ w. w.1.ensures x (sym (ap (λ m. has_name m x) w.2) ∙ z))
     (λ w. (knows-next _ _ _ _ _ pre.line pre.known).names x (sym (ap (λ m. has_name m x) w.1) ∙ z))
-    c.if2.branch
+    c.if-first-eq35.branch
 
-paragraph-lines-requires : tie.Need-paragraph-lines-requires
+paragraph-lines-requires : tie.Need-paragraph_lines-further-requires
 paragraph-lines-requires c κs =
     let o = line_of-order _ _ _ c.before.before.before.before.requires.line in
     (o.4, o.5, record { ends = ends c.before; names = names c })
@@ -49,18 +49,18 @@ add c =
     let l = start.args.line in
     let e = start.args.scope.end in
     let o = line_of-order _ _ _ start.requires.line in
-    let lines = ap (λ (x : LineRun). x.lines) at-lines.paragraph-lines.ensures.0 in
+    let lines = ap (λ (x : LineRun). x.lines) at-lines.paragraph_lines-further.ensures.0 in
     omega (arith, lines, paragraph_lines-le (lines_in s l.end e), lines_in-length s l.end e o.4 o.5)
 
 returns : tie.Need-returns
 returns c =
     let at-lines = c.before.before in
     let start = at-lines.before.before.before.before.before in
-    let further = at-lines.paragraph-lines.ensures in
+    let further = at-lines.paragraph_lines-further.ensures in
     record { is = paragraph-spanned _ _ _ start.requires.line _ further.0; known = further.1 }
 
-pub paragraph-at-spec : {M : Type 1} → statement M
-paragraph-at-spec =
+pub paragraph_at_spec : {M : Type 1} → statement M
+paragraph_at_spec =
     tie.close
     (tie.spec
     (λ c κs. c.before.requires.line)

@@ -20,36 +20,36 @@ use Rattle.rules.proofs.Laws.FirstOf.{first_of-byte, first_of-none, first_of-onl
 use Rattle.rules.proofs.first_rule.find_rule.Statement.{statement}
 use Rattle.rules.proofs.first_rule.find_rule.Tie as tie
 
-returns : tie.Need-returns
+returns : tie.Need-returns-then-line-from
 unfolding rule_at wanting is_in rules1to9 rules3to9 word
 returns c =
     let start = c.before.before.before in
-    let n = first-none _ _ _ start.requires.line c.if1.true in
+    let n = first-none _ _ _ start.requires.line c.if-line-from.true in
     rw (first_of-none (lines_in start.args.text.now start.args.line.start start.args.scope.end) start.args.scope.place 0 n refl)
 
 -- the first byte
-first : (c : tie.Else1) → let args = c.before.before.before.args in
+first : (c : tie.Else-line-from) → let args = c.before.before.before.args in
     first_at (lines_in args.text.now args.line.start args.scope.end) ≡ lower (get_or args.text.now args.line.from 0)
-first c = first_some _ _ _ c.before.before.before.requires.line c.if1.false
+first c = first_some _ _ _ c.before.before.before.requires.line c.if-line-from.false
 
-shared-slice-read-first : tie.Need-shared-slice-read-first
+shared-slice-read-first : tie.Need-bounds-text-from
 shared-slice-read-first c = let o = line_of-order _ _ _ c.before.before.before.before.requires.line in omega arith
 
-returns-2 : tie.Need-returns-2
+returns-2 : tie.Need-returns-in-58
 unfolding lower
-returns-2 c = rw (first_of-byte _ _ 58 (first c.before.before.before ∙ ap lower c.before.match.keys2)) c.try-colon.ensures
+returns-2 c = rw (first_of-byte _ _ 58 (first c.before.before.before ∙ ap lower c.before.in-83-1.keys2)) c.try_colon.ensures
 
-returns-3 : tie.Need-returns-3
+returns-3 : tie.Need-returns-in-35
 unfolding lower
-returns-3 c = rw (first_of-byte _ _ 35 (first c.before.before.before ∙ ap lower c.before.match.keys3)) c.try-hash.ensures
+returns-3 c = rw (first_of-byte _ _ 35 (first c.before.before.before ∙ ap lower c.before.in-83-1.keys3)) c.try_hash.ensures
 
-returns-4 : tie.Need-returns-4
+returns-4 : tie.Need-returns-in-124
 unfolding lower wanting is_in rules1to9 rules3to9 word
-returns-4 c = rw (first_of-only _ _ 124 (rule (word "|") table) refl (first c.before.before.before ∙ ap lower c.before.match.keys4)) c.try-table.ensures
+returns-4 c = rw (first_of-only _ _ 124 (rule (word "|") table) refl (first c.before.before.before ∙ ap lower c.before.in-83-1.keys4)) c.try_table.ensures
 
-returns-5 : tie.Need-returns-5
+returns-5 : tie.Need-returns-in-45
 unfolding lower wanting is_in rules1to9 rules3to9 word
-returns-5 c = rw (first_of-only _ _ 45 (rule (word "-") horizontal_rule) refl (first c.before.before.before ∙ ap lower c.before.match.keys5)) c.try-horizontal-rule.ensures
+returns-5 c = rw (first_of-only _ _ 45 (rule (word "-") horizontal_rule) refl (first c.before.before.before ∙ ap lower c.before.in-83-1.keys5)) c.try_horizontal_rule.ensures
 
 -- a byte of no arm is one that no rule wants
 module _ (b : ℕ) (c : b ≡ 67 → ⊥) (d : b ≡ 68 → ⊥) (s : b ≡ 83 → ⊥) (c' : b ≡ 99 → ⊥) (d' : b ≡ 100 → ⊥) (s' : b ≡ 115 → ⊥) where
@@ -61,7 +61,7 @@ module _ (b : ℕ) (c : b ≡ 67 → ⊥) (d : b ≡ 68 → ⊥) (s : b ≡ 83 �
       rw (letter-other b 67 c c', letter-other b 68 d d', letter-other b 83 s s', c58, c35, c58, mark-other b 124 refl bar, c35, c58, mark-other b 45 refl hyphen, c35, wanting)
 
 -- neither a key nor in a range
-rest : (c : tie.At-match-rest) →
+rest : (c : tie.In_default-1) →
     let args = c.before.before.before.before.before.args in
     let s = args.text.now in
     let b = get_or s args.line.from 0 in
@@ -71,21 +71,21 @@ unfolding rule_at
 rest c h i j k =
     let start = c.before.before.before.before.before in
     let s = start.args.text.now in
-    let r = c.match.rest in
+    let r = c.in-83-1.rest in
     let b = get_or s start.args.line.from 0 in
     let n = unwanted b h i (λ e. r.0.0.0.0.1 (inl e)) j k (λ e. r.0.0.0.0.1 (inr e)) r.0.0.0.1 r.0.0.1 r.0.1 r.1 in
     rw (first_of-none (lines_in s start.args.line.start start.args.scope.end) start.args.scope.place _ (first c.before.before) (n _))
 
-returns-6 : tie.Need-returns-6
+returns-6 : tie.Need-returns-in_default
 returns-6 c = rest c.before (omega arith) (omega arith) (omega arith) (omega arith)
 
-returns-7 : tie.Need-returns-7
+returns-7 : tie.Need-returns-in_default-2
 returns-7 c = rest c.before.before.before (omega arith) (omega arith) (omega arith) (omega arith)
 
-returns-8 : tie.Need-returns-8
+returns-8 : tie.Need-returns-in_default-3
 returns-8 c = rest c.before.before.before.before (omega arith) (omega arith) (omega arith) (omega arith)
 
-returns-9 : tie.Need-returns-9
+returns-9 : tie.Need-returns-in-67-to-68
 returns-9 c =
     let at_byte = c.before.before in
     let start = at_byte.before.before.before.before in
@@ -93,11 +93,11 @@ returns-9 c =
     let n =
     ⊎_elim (λ w. planning-s b w.keys1)
     (⊎_elim (λ w. planning-upper b w.1.left w.2.taken) (λ w. planning-small b w.3.left w.4.taken))
-    c.before.match.branch in
-    rw (first_of-letter _ _ (ap (λ (a : ℕ). is_in a (word "cds")) (first at_byte.before) ∙ n)) c.try-planning.ensures
+    c.before.in-83-1.branch in
+    rw (first_of-letter _ _ (ap (λ (a : ℕ). is_in a (word "cds")) (first at_byte.before) ∙ n)) c.try_planning.ensures
 
-pub find-rule-spec : {M : Type 1} → statement M
-find-rule-spec =
+pub find_rule_spec : {M : Type 1} → statement M
+find_rule_spec =
     tie.close
     (tie.spec
     returns

@@ -8,18 +8,18 @@ use Rattle.rules.proofs.Laws.Headings.{heading_stars-here, heading_stars-other, 
 use Rattle.rules.proofs.heading.heading_stars.Statement.{statement}
 use Rattle.rules.proofs.heading.heading_stars.Tie as tie
 
-returns : tie.Need-returns
+returns : tie.Need-returns-then-text-end-eq32
 returns c =
     let at_test = c.before.before in
-    sym (heading_stars-here _ _ _ _ at_test.before.run-end.ensures at_test.if1.true (eqb-true _ 32 c.if2.true))
+    sym (heading_stars-here _ _ _ _ at_test.before.run_end-end.ensures at_test.if-end-to.true (eqb-true _ 32 c.if-text-end-eq32.true))
 
-returns-2 : tie.Need-returns-2
+returns-2 : tie.Need-returns-else-end-to
 returns-2 c =
     let at_call = c.before in
     ⊎_elim
-    (λ w. sym (heading_stars-other _ _ _ _ at_call.run-end.ensures w.0.taken (eqb-false _ 32 w.2.left)))
-    (λ w. sym (heading_stars-end _ _ _ _ at_call.run-end.ensures at_call.before.before.requires.1 w.left))
-    c.if1.branch
+    (λ w. sym (heading_stars-other _ _ _ _ at_call.run_end-end.ensures w.0.taken (eqb-false _ 32 w.2.left)))
+    (λ w. sym (heading_stars-end _ _ _ _ at_call.run_end-end.ensures at_call.before.before.requires.1 w.left))
+    c.if-end-to.branch
 
-pub heading-stars-spec : {M : Type 1} → statement M
-heading-stars-spec = tie.close (tie.spec (λ c κs. search rules) (λ c. search rules) (λ c. search rules) returns returns-2)
+pub heading_stars_spec : {M : Type 1} → statement M
+heading_stars_spec = tie.close (tie.spec (λ c κs. search rules) (λ c. search rules) (λ c. search rules) returns returns-2)

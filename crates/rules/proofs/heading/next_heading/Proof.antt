@@ -15,46 +15,46 @@ use Rattle.rules.proofs.Laws.NextHeading.{next_line-star}
 use Rattle.rules.proofs.heading.next_heading.Statement.{statement}
 use Rattle.rules.proofs.heading.next_heading.Tie as tie
 
-abbrev invariant-loop : tie.invariant-loop
-invariant-loop text from most end at₀ at =
+abbrev invariant-loop-at : tie.invariant-loop-at
+invariant-loop-at text from most end at₀ at =
     (at ≤ length text) × (next_line (is_heading_up_to most) text at ≡ next_line (is_heading_up_to most) text from)
 
-abbrev decreases-loop : tie.decreases-loop
-decreases-loop text from most end at₀ at = length text - at
+abbrev decreases-loop-at : tie.decreases-loop-at
+decreases-loop-at text from most end at₀ at = length text - at
 
-returns : tie.Need-returns invariant-loop decreases-loop
+returns : tie.Need-returns-then-stars-most invariant-loop-at decreases-loop-at
 returns c =
     let at_some = c.before in
     let at_call = at_some.before in
     let at-loop = at_call.before.before in
-    sym (next_line-here _ _ _ (up_to-here _ _ _ at_call.heading-stars.ensures at_some.if1.true (leb-true _ _ c.if2.true)))
-    ∙ at-loop.loop.invariant.1
+    sym (next_line-here _ _ _ (up_to-here _ _ _ at_call.heading_stars-stars.ensures at_some.if-stars-gt0.true (leb-true _ _ c.if-stars-most.true)))
+    ∙ at-loop.loop-at.invariant.1
 
-loop-less : tie.Need-loop-smaller invariant-loop decreases-loop
-loop-less c = let star = c.next-star-line.ensures in omega arith
+loop-less : tie.Need-loop-at-smaller invariant-loop-at decreases-loop-at
+loop-less c = let star = c.next_star_line-at.ensures in omega arith
 
-loop-again : tie.Need-loop-preserved invariant-loop decreases-loop
+loop-again : tie.Need-loop-at-preserved invariant-loop-at decreases-loop-at
 loop-again c =
     let at_call = c.before.before in
     let at-loop = at_call.before.before in
-    let star = c.next-star-line.ensures in
+    let star = c.next_star_line-at.ensures in
     let other =
-    on c.before.if1.branch
-    (λ w. up_to-over _ _ _ at_call.heading-stars.ensures (leb-false _ _ w.1.left))
-    (λ w. up_to-none _ _ _ at_call.heading-stars.ensures w.left) in
-    (star.to, sym (next_line-star _ _ _ _ other star) ∙ at-loop.loop.invariant.1)
+    on c.before.if-stars-gt0.branch
+    (λ w. up_to-over _ _ _ at_call.heading_stars-stars.ensures (leb-false _ _ w.1.left))
+    (λ w. up_to-none _ _ _ at_call.heading_stars-stars.ensures w.left) in
+    (star.to, sym (next_line-star _ _ _ _ other star) ∙ at-loop.loop-at.invariant.1)
 
-returns-2 : tie.Need-returns-2 invariant-loop decreases-loop
+returns-2 : tie.Need-returns invariant-loop-at decreases-loop-at
 returns-2 c =
     let at-loop = c.before in
-    sym (next_line-end _ _ _ at-loop.loop.invariant.0 (omega arith)) ∙ at-loop.loop.invariant.1
+    sym (next_line-end _ _ _ at-loop.loop-at.invariant.0 (omega arith)) ∙ at-loop.loop-at.invariant.1
 
-pub next-heading-spec : {M : Type 1} → statement M
-next-heading-spec =
+pub next_heading_spec : {M : Type 1} → statement M
+next_heading_spec =
     tie.close
     (tie.spec
-    invariant-loop
-    decreases-loop
+    invariant-loop-at
+    decreases-loop-at
     (λ c. (omega arith, refl))
     (λ c κs. omega arith)
     returns

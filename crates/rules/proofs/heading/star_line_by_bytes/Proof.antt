@@ -12,44 +12,44 @@ use Rattle.rules.proofs.Laws.NextHeading.{no_star_line-append}
 use Rattle.rules.proofs.heading.star_line_by_bytes.Statement.{statement}
 use Rattle.rules.proofs.heading.star_line_by_bytes.Tie as tie
 
-abbrev invariant-loop : tie.invariant-loop
-invariant-loop text from i₀ i = (from ≤ i) × (i ≤ length text) × NoStarLine text from i
+abbrev invariant-loop-i : tie.invariant-loop-i
+invariant-loop-i text from i₀ i = (from ≤ i) × (i ≤ length text) × NoStarLine text from i
 
-abbrev decreases-loop : tie.decreases-loop
-decreases-loop text from i₀ i = length text - i
+abbrev decreases-loop-i : tie.decreases-loop-i
+decreases-loop-i text from i₀ i = length text - i
 
-returns : tie.Need-returns invariant-loop decreases-loop
+returns : tie.Need-returns-then-text-i-eq10 invariant-loop-i decreases-loop-i
 returns c =
     let at_first = c.before.before in
     let at-loop = at_first.before.before.before in
     record {
       from = omega arith;
       to = omega arith;
-      none = at-loop.loop.invariant.2;
-      here = λ h. (at_first.if1.true, eqb-true _ 10 c.if2.true);
+      none = at-loop.loop-i.invariant.2;
+      here = λ h. (at_first.if-text-i-eq42.true, eqb-true _ 10 c.if-text-i-eq10.true);
     }
 
-loop-again : tie.Need-loop-preserved invariant-loop decreases-loop
+loop-again : tie.Need-loop-i-preserved invariant-loop-i decreases-loop-i
 loop-again c =
     let at-loop = c.before.before.before in
     let s = at-loop.before.args.text.now in
-    let i = at-loop.loop.i in (
+    let i = at-loop.loop-i.i in (
       omega arith,
       omega arith,
-      no_star_line-append s _ i _ at-loop.loop.invariant.2 (λ k a b.
+      no_star_line-append s _ i _ at-loop.loop-i.invariant.2 (λ k a b.
           let q : k ≡ i = omega arith in
-          rw q (on c.if1.branch (λ w star. eqb-false _ 10 w.2.left star.1) (λ w star. w.left star.0))),
+          rw q (on c.if-text-i-eq42.branch (λ w star. eqb-false _ 10 w.2.left star.1) (λ w star. w.left star.0))),
     )
 
-returns-2 : tie.Need-returns-2 invariant-loop decreases-loop
-returns-2 c = record { from = omega arith; to = omega arith; none = c.before.loop.invariant.2; here = λ h. absurd (omega arith) }
+returns-2 : tie.Need-returns invariant-loop-i decreases-loop-i
+returns-2 c = record { from = omega arith; to = omega arith; none = c.before.loop-i.invariant.2; here = λ h. absurd (omega arith) }
 
-pub star-line-by-bytes-spec : {M : Type 1} → statement M
-star-line-by-bytes-spec =
+pub star_line_by_bytes_spec : {M : Type 1} → statement M
+star_line_by_bytes_spec =
     tie.close
     (tie.spec
-    invariant-loop
-    decreases-loop
+    invariant-loop-i
+    decreases-loop-i
     (λ c. (omega arith, omega arith, λ k a b. absurd (omega arith)))
     (λ c. omega arith)
     (λ c. omega arith)

@@ -24,42 +24,42 @@ module _ (b a : ℕ) where
       let yes : (eqb b 42 && eqb a 10) ≡ true = rw (eq-eqb b 42 k.0, eq-eqb a 10 k.1) in
       true≢false (sym yes ∙ h)
 
-abbrev invariant-loop : tie.invariant-loop
-invariant-loop text at first₀ j₀ first j =
+abbrev invariant-loop-j : tie.invariant-loop-j
+invariant-loop-j text at first₀ j₀ first j =
     (j ≤ 64)
     × ((first ≤ 255) × (first < 64 → (first < j) × StarLine text (at + first)) × ((k : ℕ) → k < j → k < first → StarLine text (at + k) → ⊥))
 
-abbrev decreases-loop : tie.decreases-loop
-decreases-loop text at first₀ j₀ first j = 64 - j
+abbrev decreases-loop-j : tie.decreases-loop-j
+decreases-loop-j text at first₀ j₀ first j = 64 - j
 
-loop-again : tie.Need-loop-preserved invariant-loop decreases-loop
+loop-again : tie.Need-loop-j-preserved invariant-loop-j decreases-loop-j
 loop-again c =
     let at-loop = c.before.before.before.before.before in
-    let found = at-loop.loop.invariant.1.1 in
-    let none = at-loop.loop.invariant.1.2 in (
+    let found = at-loop.loop-j.invariant.1.1 in
+    let none = at-loop.loop-j.invariant.1.2 in (
       omega arith,
-      on c.if2.branch
-          (λ w. on c.before.if1.branch
+      on c.if-here-first.branch
+          (λ w. on c.before.if-text-at.branch
           (λ v. (omega arith, λ h. (omega arith, rw (w.1 ∙ v.1) (test-yes _ _ v.0.taken)), λ k h l. none k (omega arith) (omega arith)))
           (λ v. (omega arith, λ h. absurd (omega arith), below_more _ _ (λ k h l. none k h (omega arith)) (λ l. test-no _ _ v.0.left))))
           (λ w. (
             omega arith,
             λ h. let f = found (omega arith) in (omega arith, rw w.1 f.1),
-            on c.before.if1.branch
+            on c.before.if-text-at.branch
                 (λ v k h l. none k (omega arith) (omega arith))
                 (λ v. below_more _ _ (λ k h l. none k h (omega arith)) (λ l. test-no _ _ v.0.left)),
           )),
     )
 
-returns : tie.Need-returns invariant-loop decreases-loop
-returns c = (λ h. (c.before.loop.invariant.1.1 h).1, λ k h l. c.before.loop.invariant.1.2 k (omega arith) l)
+returns : tie.Need-returns invariant-loop-j decreases-loop-j
+returns c = (λ h. (c.before.loop-j.invariant.1.1 h).1, λ k h l. c.before.loop-j.invariant.1.2 k (omega arith) l)
 
-pub star-line-in-spec : {M : Type 1} → statement M
-star-line-in-spec =
+pub star_line_in_spec : {M : Type 1} → statement M
+star_line_in_spec =
     tie.close
     (tie.spec
-    invariant-loop
-    decreases-loop
+    invariant-loop-j
+    decreases-loop-j
     (λ c. (omega arith, (omega arith, λ h. absurd (omega arith), λ k h. absurd (omega arith))))
     (λ c. omega arith)
     (λ c. omega arith)

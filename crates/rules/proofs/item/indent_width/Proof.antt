@@ -12,37 +12,37 @@ use Rattle.rules.proofs.Laws.Items.{width_of-nil, width_of-tab, width_of-other}
 use Rattle.rules.proofs.item.indent_width.Statement.{statement}
 use Rattle.rules.proofs.item.indent_width.Tie as tie
 
-abbrev invariant-loop : tie.invariant-loop
-invariant-loop text at body width₀ i₀ width i =
+abbrev invariant-loop-i : tie.invariant-loop-i
+invariant-loop-i text at body width₀ i₀ width i =
     (at ≤ i) × (i ≤ body) × (width ≤ 8 * (i - at)) × (width + width_of (part text i body) ≡ width_of (part text at body))
 
-abbrev decreases-loop : tie.decreases-loop
-decreases-loop text at body width₀ i₀ width i = body - i
+abbrev decreases-loop-i : tie.decreases-loop-i
+decreases-loop-i text at body width₀ i₀ width i = body - i
 
-loop-again : tie.Need-loop-preserved invariant-loop decreases-loop
+loop-again : tie.Need-loop-i-preserved invariant-loop-i decreases-loop-i
 loop-again c =
     let at_test = c.before.before in
     let at-loop = at_test.before in
     let start = at-loop.before in
     let s = start.args.text.now in
-    let i = at-loop.loop.i in
+    let i = at-loop.loop-i.i in
     let e = start.args.body in
-    let h = at_test.loop-test.true in
+    let h = at_test.loop-i-test.true in
     let k = start.requires.1 in
-    ⊎_elim (λ w. omega (arith, width_of-tab s i e h k w.0.taken)) (λ w. omega (arith, width_of-other s i e h k w.0.left)) c.if1.branch
+    ⊎_elim (λ w. omega (arith, width_of-tab s i e h k w.0.taken)) (λ w. omega (arith, width_of-other s i e h k w.0.left)) c.if-text-i-eq9.branch
 
-returns : tie.Need-returns invariant-loop decreases-loop
+returns : tie.Need-returns invariant-loop-i decreases-loop-i
 returns c =
     let at-loop = c.before in
     let start = at-loop.before in
-    omega (arith, width_of-nil start.args.text.now at-loop.loop.i start.args.body c.loop-test.false)
+    omega (arith, width_of-nil start.args.text.now at-loop.loop-i.i start.args.body c.loop-i-test.false)
 
-pub indent-width-spec : {M : Type 1} → statement M
-indent-width-spec =
+pub indent_width_spec : {M : Type 1} → statement M
+indent_width_spec =
     tie.close
     (tie.spec
-    invariant-loop
-    decreases-loop
+    invariant-loop-i
+    decreases-loop-i
     (λ c. omega arith)
     (λ c. omega arith)
     (λ c. omega arith)

@@ -5,26 +5,26 @@ use Rattle.rules.specs.Items.{is_byte}
 use Rattle.rules.proofs.item.is_item_byte.Statement.{statement}
 use Rattle.rules.proofs.item.is_item_byte.Tie as tie
 
-returns : tie.Need-returns
-returns c = rw c.before.enum_told.given.1 c.is_stop.ensures
+returns : tie.Need-returns-in-Stop
+returns c = rw c.before.enum_told-1.given.1 c.is_stop.ensures
 
-returns-2 : tie.Need-returns-2
+returns-2 : tie.Need-returns-in-Opening
 unfolding is_byte
-returns-2 c = rw c.enum-told2.given.1
+returns-2 c = rw c.enum_told-in-Opening-1.given.1
 
-returns-3 : tie.Need-returns-3
+returns-3 : tie.Need-returns-in-AtSign
 unfolding is_byte
-returns-3 c = rw c.enum-told3.given.1
+returns-3 c = rw c.enum_told-in-AtSign-1.given.1
 
-returns-4 : tie.Need-returns-4
-returns-4 c = rw c.before.enum-told4.given.1 c.is-check.ensures
+returns-4 : tie.Need-returns-in-Check
+returns-4 c = rw c.before.enum_told-in-Check-1.given.1 c.is_check.ensures
 
-returns-5 : tie.Need-returns-5
+returns-5 : tie.Need-returns-in-Closing
 unfolding is_byte
-returns-5 c = rw c.enum-told5.given.1
+returns-5 c = rw c.enum_told-in-Closing-1.given.1
 
-pub is-item-byte-spec : {M : Type 1} → statement M
-is-item-byte-spec =
+pub is_item_byte_spec : {M : Type 1} → statement M
+is_item_byte_spec =
     tie.close
     (tie.spec
     (λ c. search rules)

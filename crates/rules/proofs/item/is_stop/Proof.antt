@@ -5,11 +5,11 @@ use Rattle.rules.proofs.Laws.Bullets.{is_mark-yes, is_mark-no}
 use Rattle.rules.proofs.item.is_stop.Statement.{statement}
 use Rattle.rules.proofs.item.is_stop.Tie as tie
 
-returns : tie.Need-returns
-returns c = sym (is_mark-yes _ c.match.keys1)
+returns : tie.Need-returns-in-46
+returns c = sym (is_mark-yes _ c.in-46.keys1)
 
-returns-2 : tie.Need-returns-2
-returns-2 c = sym (is_mark-no _ c.match.rest.1)
+returns-2 : tie.Need-returns-in_default
+returns-2 c = sym (is_mark-no _ c.in-46.rest.1)
 
-pub is-stop-spec : {M : Type 1} → statement M
-is-stop-spec = tie.close (tie.spec returns returns-2)
+pub is_stop_spec : {M : Type 1} → statement M
+is_stop_spec = tie.close (tie.spec returns returns-2)

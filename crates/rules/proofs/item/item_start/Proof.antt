@@ -9,35 +9,35 @@ use Rattle.rules.proofs.Laws.Bullets.{after_run-line, on_line-run, stay-to, past
 use Rattle.rules.proofs.item.item_start.Statement.{statement}
 use Rattle.rules.proofs.item.item_start.Tie as tie
 
-after-set-requires : tie.Need-after-set-requires
+after-set-requires : tie.Need-after_set-requires
 unfolding is_blank
 after-set-requires c κs =
     let pre = c.before.before.requires in
-    let o = on_line-run _ _ _ is_blank refl _ c.run-end.ensures pre.0 pre.1 in
+    let o = on_line-run _ _ _ is_blank refl _ c.run_end-a.ensures pre.0 pre.1 in
     omega arith
 
-run-end-requires-2 : tie.Need-run-end-requires-2
+run-end-requires-2 : tie.Need-run_end-b-requires
 unfolding is_blank
 run-end-requires-2 c κs =
     let at_set = c.before in
     let at_a = at_set.before in
     let pre = at_a.before.before.requires in
     let k = pre.1 in
-    let o = on_line-run _ _ _ is_blank refl _ at_a.run-end.ensures pre.0 pre.1 in
-    (stay-to _ _ _ o.to k after_set _ at_set.after-set.ensures _ c.or-stay.ensures, k)
+    let o = on_line-run _ _ _ is_blank refl _ at_a.run_end-a.ensures pre.0 pre.1 in
+    (stay-to _ _ _ o.to k after_set _ at_set.after_set.ensures _ c.or_stay.ensures, k)
 
-after-box-requires : tie.Need-after-box-requires
+after-box-requires : tie.Need-after_box-requires
 unfolding is_blank
 after-box-requires c κs =
     let at_set = c.before.before in
     let at_a = at_set.before in
     let pre = at_a.before.before.requires in
     let k = pre.1 in
-    let o = on_line-run _ _ _ is_blank refl _ at_a.run-end.ensures pre.0 k in
-    let set = past-line _ _ _ o.to k after_set _ at_set.after-set.ensures _ c.before.or-stay.ensures _ c.run-end2.ensures in
+    let o = on_line-run _ _ _ is_blank refl _ at_a.run_end-a.ensures pre.0 k in
+    let set = past-line _ _ _ o.to k after_set _ at_set.after_set.ensures _ c.before.or_stay.ensures _ c.run_end-b.ensures in
     (set.1.to, k)
 
-run-end-requires-3 : tie.Need-run-end-requires-3
+run-end-requires-3 : tie.Need-run_end-requires
 unfolding is_blank
 run-end-requires-3 c κs =
     let at-box = c.before in
@@ -46,9 +46,9 @@ run-end-requires-3 c κs =
     let at_a = at_set.before in
     let pre = at_a.before.before.requires in
     let k = pre.1 in
-    let o = on_line-run _ _ _ is_blank refl _ at_a.run-end.ensures pre.0 k in
-    let set = past-line _ _ _ o.to k after_set _ at_set.after-set.ensures _ at_b.before.or-stay.ensures _ at_b.run-end2.ensures in
-    (stay-to _ _ _ set.1.to k after_box _ at-box.after-box.ensures _ c.or-stay2.ensures, k)
+    let o = on_line-run _ _ _ is_blank refl _ at_a.run_end-a.ensures pre.0 k in
+    let set = past-line _ _ _ o.to k after_set _ at_set.after_set.ensures _ at_b.before.or_stay.ensures _ at_b.run_end-b.ensures in
+    (stay-to _ _ _ set.1.to k after_box _ at-box.after_box.ensures _ c.or_stay-2.ensures, k)
 
 returns : tie.Need-returns
 unfolding is_blank
@@ -59,13 +59,13 @@ returns c =
     let at_a = at_set.before in
     let pre = at_a.before.before.requires in
     let k = pre.1 in
-    let o = on_line-run _ _ _ is_blank refl _ at_a.run-end.ensures pre.0 k in
-    let set = past-line _ _ _ o.to k after_set _ at_set.after-set.ensures _ at_b.before.or-stay.ensures _ at_b.run-end2.ensures in
-    let box = past-line _ _ _ set.1.to k after_box _ at-box.after-box.ensures _ c.before.or-stay2.ensures _ c.run-end3.ensures in
-    marks_line _ _ _ _ _ _ o (after_run-line _ _ _ is_blank refl _ at_a.run-end.ensures) set box
+    let o = on_line-run _ _ _ is_blank refl _ at_a.run_end-a.ensures pre.0 k in
+    let set = past-line _ _ _ o.to k after_set _ at_set.after_set.ensures _ at_b.before.or_stay.ensures _ at_b.run_end-b.ensures in
+    let box = past-line _ _ _ set.1.to k after_box _ at-box.after_box.ensures _ c.before.or_stay-2.ensures _ c.run_end.ensures in
+    marks_line _ _ _ _ _ _ o (after_run-line _ _ _ is_blank refl _ at_a.run_end-a.ensures) set box
 
-pub item-start-spec : {M : Type 1} → statement M
-item-start-spec =
+pub item_start_spec : {M : Type 1} → statement M
+item_start_spec =
     tie.close
     (tie.spec
     (λ c κs. search rules)

@@ -12,31 +12,31 @@ use Rattle.rules.proofs.item.may_be_item.Statement.{statement}
 use Rattle.rules.proofs.item.may_be_item.Tie as tie
 
 -- past the first test
-outside : (c : tie.Joined1) → let a = c.before.before.args in Outside 42 45 (get_or a.text.now a.body 0)
-outside c = on c.if1.branch (λ w. inl (omega (arith, leb-false))) (λ w. inr w.left)
+outside : (c : tie.Joined-else-first-ge42) → let a = c.before.before.args in Outside 42 45 (get_or a.text.now a.body 0)
+outside c = on c.if-first-ge42.branch (λ w. inl (omega (arith, leb-false))) (λ w. inr w.left)
 
-returns-2 : tie.Need-returns-2
+returns-2 : tie.Need-returns-then-to-body
 returns-2 c p h z =
     let at_first = c.before in
     let pre = at_first.before.before.requires in
-    item-one-byte _ _ _ _ h pre.0 pre.1 (outside at_first) c.if3.true
+    item-one-byte _ _ _ _ h pre.0 pre.1 (outside at_first) c.if-to-body.true
 
-returns-3 : tie.Need-returns-3
+returns-3 : tie.Need-returns-then-second-ge41
 returns-3 c p h z =
     let at_more = c.before.before in
     let at_first = at_more.before in
     let pre = at_first.before.before.requires in
-    item-two-bytes _ _ _ _ h pre.0 pre.1 (outside at_first) at_more.if3.false (inl (leb-false _ _ z))
+    item-two-bytes _ _ _ _ h pre.0 pre.1 (outside at_first) at_more.if-to-body.false (inl (leb-false _ _ z))
 
-returns-4 : tie.Need-returns-4
+returns-4 : tie.Need-returns-else-second-ge41
 returns-4 c p h z =
     let at_more = c.before.before in
     let at_first = at_more.before in
     let pre = at_first.before.before.requires in
-    item-two-bytes _ _ _ _ h pre.0 pre.1 (outside at_first) at_more.if3.false (inr c.if4.false)
+    item-two-bytes _ _ _ _ h pre.0 pre.1 (outside at_first) at_more.if-to-body.false (inr c.if-second-ge41.false)
 
-pub may-be-item-spec : {M : Type 1} → statement M
-may-be-item-spec =
+pub may_be_item_spec : {M : Type 1} → statement M
+may_be_item_spec =
     tie.close
     (tie.spec
     (λ c. omega arith)

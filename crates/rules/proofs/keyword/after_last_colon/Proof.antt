@@ -11,39 +11,39 @@ use Rattle.rules.proofs.Laws.Colons.{through_colon-part-nil, through_colon-part-
 use Rattle.rules.proofs.keyword.after_last_colon.Statement.{statement}
 use Rattle.rules.proofs.keyword.after_last_colon.Tie as tie
 
-abbrev invariant-loop : tie.invariant-loop
-invariant-loop text from to i₀ i =
+abbrev invariant-loop-i : tie.invariant-loop-i
+invariant-loop-i text from to i₀ i =
     (from ≤ i) × (i ≤ length text) × (length (through_colon (part text from i)) ≡ length (through_colon (part text from to)))
 
-abbrev decreases-loop : tie.decreases-loop
-decreases-loop text from to i₀ i = i - from
+abbrev decreases-loop-i : tie.decreases-loop-i
+decreases-loop-i text from to i₀ i = i - from
 
-returns : tie.Need-returns invariant-loop decreases-loop
+returns : tie.Need-returns-then-text-i-eq58 invariant-loop-i decreases-loop-i
 returns c =
     let at_test = c.before.before in
     let at-loop = at_test.before in
     let args = at-loop.before.args in
-    omega (arith, through_colon-part-here args.text.now args.from at-loop.loop.i at_test.loop-test.true at-loop.loop.invariant.1 c.if1.true)
+    omega (arith, through_colon-part-here args.text.now args.from at-loop.loop-i.i at_test.loop-i-test.true at-loop.loop-i.invariant.1 c.if-text-i-eq58.true)
 
-loop-again : tie.Need-loop-preserved invariant-loop decreases-loop
+loop-again : tie.Need-loop-i-preserved invariant-loop-i decreases-loop-i
 loop-again c =
     let at_test = c.before.before in
     let at-loop = at_test.before in
     let args = at-loop.before.args in
-    omega (arith, through_colon-part-skip args.text.now args.from at-loop.loop.i at_test.loop-test.true at-loop.loop.invariant.1 c.if1.false)
+    omega (arith, through_colon-part-skip args.text.now args.from at-loop.loop-i.i at_test.loop-i-test.true at-loop.loop-i.invariant.1 c.if-text-i-eq58.false)
 
-returns-2 : tie.Need-returns-2 invariant-loop decreases-loop
+returns-2 : tie.Need-returns invariant-loop-i decreases-loop-i
 returns-2 c =
     let at-loop = c.before in
     let args = at-loop.before.args in
-    omega (arith, through_colon-part-nil args.text.now args.from at-loop.loop.i c.loop-test.false)
+    omega (arith, through_colon-part-nil args.text.now args.from at-loop.loop-i.i c.loop-i-test.false)
 
-pub after-last-colon-spec : {M : Type 1} → statement M
-after-last-colon-spec =
+pub after_last_colon_spec : {M : Type 1} → statement M
+after_last_colon_spec =
     tie.close
     (tie.spec
-    invariant-loop
-    decreases-loop
+    invariant-loop-i
+    decreases-loop-i
     (λ c. omega arith)
     (λ c. omega arith)
     (λ c. omega arith)

@@ -13,40 +13,40 @@ use Rattle.rules.proofs.Laws.Known.{NamesTo, names-all, names-other, end-order, 
 use Rattle.rules.proofs.known.closing_names.Statement.{statement}
 use Rattle.rules.proofs.known.closing_names.Tie as tie
 
-abbrev invariant-loop : tie.invariant-loop
-invariant-loop text from to at₀ names₀ t at names = (at ≤ to) × (to ≤ length text) × NamesTo text from at to names
+abbrev invariant-loop-at : tie.invariant-loop-at
+invariant-loop-at text from to at₀ names₀ t at names = (at ≤ to) × (to ≤ length text) × NamesTo text from at to names
 
-abbrev decreases-loop : tie.decreases-loop
-decreases-loop text from to at₀ names₀ t at names = to - at
+abbrev decreases-loop-at : tie.decreases-loop-at
+decreases-loop-at text from to at₀ names₀ t at names = to - at
 
 -- the next line starts further on, and not past the end
-next : (c : tie.After-line-at invariant-loop decreases-loop) → let at-loop = c.before.before in
-    (at-loop.loop.at < c.line_at.result.end) × (c.line_at.result.end ≤ at-loop.before.before.args.to)
+next : (c : tie.After-line_at-line invariant-loop-at decreases-loop-at) → let at-loop = c.before.before in
+    (at-loop.loop-at.at < c.line_at-line.result.end) × (c.line_at-line.result.end ≤ at-loop.before.before.args.to)
 next c =
     let at_test = c.before in
-    line_span-next _ _ _ _ c.line_at.ensures at_test.loop-test.true at_test.before.loop.invariant.1
+    line_span-next _ _ _ _ c.line_at-line.ensures at_test.loop-at-test.true at_test.before.loop-at.invariant.1
 
-begins-with-requires : tie.Need-begins-with-requires invariant-loop decreases-loop
+begins-with-requires : tie.Need-begins_with-requires invariant-loop-at decreases-loop-at
 begins-with-requires c κs =
     let at-line = c.before in
     let at_test = at-line.before in
-    let o = line_of-order _ _ _ (line_of _ _ _ _ at_test.loop-test.true at_test.before.loop.invariant.1 at-line.line_at.ensures) in
+    let o = line_of-order _ _ _ (line_of _ _ _ _ at_test.loop-at-test.true at_test.before.loop-at.invariant.1 at-line.line_at-line.ensures) in
     (o.1, omega arith)
 
 -- where the name stands
-name : (c : tie.Then1 invariant-loop decreases-loop) →
+name : (c : tie.Then-begins_with invariant-loop-at decreases-loop-at) →
     let at-line = c.before.before.before in
-    let line = at-line.line_at.result in
+    let line = at-line.line_at-line.result in
     (line.from + 6 ≤ line.to) × (line.to ≤ length at-line.before.before.before.before.args.text.now)
 unfolding word
 name c =
     let at-begins = c.before in
     let at-line = at-begins.before.before in
     let at_test = at-line.before in
-    end-order _ _ _ _ at-line.line_at.ensures at_test.loop-test.true at_test.before.loop.invariant.1
-    (sym at-begins.begins-with.ensures ∙ c.if1.true)
+    end-order _ _ _ _ at-line.line_at-line.ensures at_test.loop-at-test.true at_test.before.loop-at.invariant.1
+    (sym at-begins.begins_with.ensures ∙ c.if-begins_with.true)
 
-loop-again : tie.Need-loop-preserved invariant-loop decreases-loop
+loop-again : tie.Need-loop-at-preserved-then-begins_with invariant-loop-at decreases-loop-at
 unfolding word
 loop-again c =
     let at_name = c.before in
@@ -54,31 +54,31 @@ loop-again c =
     let at-begins = at-if.before in
     let at-line = at-begins.before.before in
     let at_test = at-line.before in
-    let inv = at_test.before.loop.invariant in (
+    let inv = at_test.before.loop-at.invariant in (
       (next at-line).1,
       inv.1,
-      names-one _ _ _ _ at-line.line_at.ensures at_test.loop-test.true inv.1 (sym at-begins.begins-with.ensures ∙ at-if.if1.true)
-          _ _ _ _ at_name.name-number.ensures.0 c.with-name.ensures inv.2,
+      names-one _ _ _ _ at-line.line_at-line.ensures at_test.loop-at-test.true inv.1 (sym at-begins.begins_with.ensures ∙ at-if.if-begins_with.true)
+          _ _ _ _ at_name.name_number.ensures.0 c.with_name-names.ensures inv.2,
     )
 
-loop-again-2 : tie.Need-loop-preserved-2 invariant-loop decreases-loop
+loop-again-2 : tie.Need-loop-at-preserved invariant-loop-at decreases-loop-at
 unfolding word
 loop-again-2 c =
     let at-begins = c.before in
     let at-line = at-begins.before.before in
     let at_test = at-line.before in
-    let inv = at_test.before.loop.invariant in (
+    let inv = at_test.before.loop-at.invariant in (
       (next at-line).1,
       inv.1,
-      names-other _ _ _ _ at-line.line_at.ensures at_test.loop-test.true inv.1 (sym at-begins.begins-with.ensures ∙ c.if1.false) _ _ inv.2,
+      names-other _ _ _ _ at-line.line_at-line.ensures at_test.loop-at-test.true inv.1 (sym at-begins.begins_with.ensures ∙ c.if-begins_with.false) _ _ inv.2,
     )
 
-pub closing-names-spec : {M : Type 1} → statement M
-closing-names-spec =
+pub closing_names_spec : {M : Type 1} → statement M
+closing_names_spec =
     tie.close
     (tie.spec
-    invariant-loop
-    decreases-loop
+    invariant-loop-at
+    decreases-loop-at
     (λ c. (omega arith, omega arith, λ x h n. n))
     (λ c κs. omega arith)
     (λ c. search rules)
@@ -90,4 +90,4 @@ closing-names-spec =
     loop-again
     (λ c. omega (arith, next c.before.before.before))
     loop-again-2
-    (λ c. names-all _ _ _ _ _ c.loop-test.false c.before.loop.invariant.2))
+    (λ c. names-all _ _ _ _ _ c.loop-at-test.false c.before.loop-at.invariant.2))

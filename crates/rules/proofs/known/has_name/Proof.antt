@@ -7,7 +7,7 @@ use Rattle.rules.proofs.known.has_name.Tie as tie
 
 returns : tie.Need-returns
 unfolding has_name
-returns c = rw c.name-number.ensures.0
+returns c = rw c.name_number.ensures.0
 
-pub has-name-spec : {M : Type 1} → statement M
-has-name-spec = tie.close (tie.spec (λ c κs. omega arith) (λ c. omega arith) returns)
+pub has_name_spec : {M : Type 1} → statement M
+has_name_spec = tie.close (tie.spec (λ c κs. omega arith) (λ c. omega arith) returns)

@@ -12,38 +12,38 @@ use Rattle.rules.proofs.Laws.Known.{number-end, number_step}
 use Rattle.rules.proofs.known.name_number.Statement.{statement}
 use Rattle.rules.proofs.known.name_number.Tie as tie
 
-abbrev invariant-loop : tie.invariant-loop
-invariant-loop text from to n₀ i₀ n i =
+abbrev invariant-loop-i : tie.invariant-loop-i
+invariant-loop-i text from to n₀ i₀ n i =
     (i ≤ to) × (to ≤ length text) × (n < 63) × (number_from n (part text i to) ≡ name_number (part text from to))
 
-abbrev decreases-loop : tie.decreases-loop
-decreases-loop text from to n₀ i₀ n i = to - i
+abbrev decreases-loop-i : tie.decreases-loop-i
+decreases-loop-i text from to n₀ i₀ n i = to - i
 
-loop-holds : tie.Need-loop-init invariant-loop decreases-loop
+loop-holds : tie.Need-loop-i-init invariant-loop-i decreases-loop-i
 unfolding name_number
 loop-holds c = (omega arith, omega arith, omega arith, refl)
 
-loop-again : tie.Need-loop-preserved invariant-loop decreases-loop
+loop-again : tie.Need-loop-i-preserved invariant-loop-i decreases-loop-i
 loop-again c =
     let at_test = c.before.before in
-    let inv = at_test.before.loop.invariant in (
+    let inv = at_test.before.loop-i.invariant in (
       omega arith,
       omega arith,
       omega arith,
-      rw c.lower.ensures (sym (number_step _ _ _ _ at_test.loop-test.true inv.1)) ∙ inv.3,
+      rw c.lower.ensures (sym (number_step _ _ _ _ at_test.loop-i-test.true inv.1)) ∙ inv.3,
     )
 
-returns : tie.Need-returns invariant-loop decreases-loop
+returns : tie.Need-returns invariant-loop-i decreases-loop-i
 returns c =
-    let inv = c.before.loop.invariant in
-    (sym (number-end _ _ _ _ c.loop-test.false) ∙ inv.3, inv.2)
+    let inv = c.before.loop-i.invariant in
+    (sym (number-end _ _ _ _ c.loop-i-test.false) ∙ inv.3, inv.2)
 
-pub name-number-spec : {M : Type 1} → statement M
-name-number-spec =
+pub name_number_spec : {M : Type 1} → statement M
+name_number_spec =
     tie.close
     (tie.spec
-    invariant-loop
-    decreases-loop
+    invariant-loop-i
+    decreases-loop-i
     loop-holds
     (λ c. omega arith)
     (λ c. omega arith)

@@ -5,5 +5,5 @@ use Rattle.rules.proofs.Laws.Known.{has_name-more}
 use Rattle.rules.proofs.known.with_name.Statement.{statement}
 use Rattle.rules.proofs.known.with_name.Tie as tie
 
-pub with-name-spec : {M : Type 1} → statement M
-with-name-spec = tie.close (tie.spec (λ c. search rules) (λ c. has_name-more _ _ c.requires))
+pub with_name_spec : {M : Type 1} → statement M
+with_name_spec = tie.close (tie.spec (λ c. search rules) (λ c. has_name-more _ _ c.requires))

@@ -16,37 +16,37 @@ use Rattle.rules.proofs.list.lines_together.Tie as tie
 within : (c : tie.Start) → c.args.body < c.args.scope.end
 within c = let pre = c.requires in body-within _ _ _ _ pre.some pre.text pre.body pre.nonblank
 
-shared-slice-read-first : tie.Need-shared-slice-read-first
+shared-slice-read-first : tie.Need-bounds-text-body
 shared-slice-read-first c = let pre = c.before.before.requires in omega (arith, within c.before.before, pre.text)
 
-together-end-requires : tie.Need-together-end-requires
+together-end-requires : tie.Need-together_end-requires
 together-end-requires c κs =
     let pre = c.before.before.before.before.requires in
     let start = line_span-start _ _ _ _ c.line_at.ensures in
     record { line = line_of _ _ _ _ pre.some pre.text c.line_at.ensures; known = rw start pre.known }
 
-line-end-requires : tie.Need-line-end-requires
+line-end-requires : tie.Need-line_end-requires
 line-end-requires c κs = let start = c.before.before.before in (let h = within start in omega arith, start.requires.text)
 
-returns : tie.Need-returns
-returns c = rw (line_span-start _ _ _ _ c.before.line_at.ensures) at c.together-end.ensures
+returns : tie.Need-returns-in-35
+returns c = rw (line_span-start _ _ _ _ c.before.line_at.ensures) at c.together_end.ensures
 
-end : (c : tie.After-line-end) → let args = c.before.before.before.before.args in
-    c.line-end.result ≡ args.start + length (line_in args.text.now args.start args.scope.end)
-end c = c.line-end.ensures ∙ after-end _ _ _ _ c.before.before.before.before.requires.body
+end : (c : tie.After-line_end) → let args = c.before.before.before.before.args in
+    c.line_end.result ≡ args.start + length (line_in args.text.now args.start args.scope.end)
+end c = c.line_end.ensures ∙ after-end _ _ _ _ c.before.before.before.before.requires.body
 
-returns-2 : tie.Need-returns-2
+returns-2 : tie.Need-returns-in_default
 returns-2 c =
     let pre = c.before.before.before.before.requires in
-    let r = c.before.match.rest in
+    let r = c.before.in-35.rest in
     let alone = line-alone _ _ _ _ pre.some pre.text pre.body pre.nonblank in
     record {
       run = alone (λ h. r.1 (inl h)) (λ h. r.1 (inr (inl h))) (λ h. r.1 (inr (inr h))) _ (end c);
       known = rw (end c) (knows_line _ _ _ _ _ pre.known);
     }
 
-pub lines-together-spec : {M : Type 1} → statement M
-lines-together-spec =
+pub lines_together_spec : {M : Type 1} → statement M
+lines_together_spec =
     tie.close
     (tie.spec
     shared-slice-read-first

@@ -25,161 +25,161 @@ use Rattle.rules.proofs.Laws.ScanRuns.{item-order, list-first, list-total, list-
 use Rattle.rules.proofs.list.list_end.Statement.{statement}
 use Rattle.rules.proofs.list.list_end.Tie as tie
 
-abbrev invariant-loop : tie.invariant-loop
-invariant-loop text width to at₀ n₀ ends₀ names₀ at n ends names =
+abbrev invariant-loop-start : tie.invariant-loop-start
+invariant-loop-start text width to at₀ n₀ ends₀ names₀ at n ends names =
     (at ≤ to) × (to ≤ length text) × (to ≤ text_limit) × Knows text at to ends names
     × (run_by (list_rest width) text at to n ≡ run_by (list_rest width) text at₀ to n₀)
 
-abbrev decreases-loop : tie.decreases-loop
-decreases-loop text width to at₀ n₀ ends₀ names₀ at n ends names = to - at
+abbrev decreases-loop-start : tie.decreases-loop-start
+decreases-loop-start text width to at₀ n₀ ends₀ names₀ at n ends names = to - at
 
-loop-holds : tie.Need-loop-init invariant-loop decreases-loop
+loop-holds : tie.Need-loop-start-init invariant-loop-start decreases-loop-start
 loop-holds c =
     let pre = c.before.requires in
     let o = line_of-order _ _ _ pre.first.line in
     (o.4, o.5, pre.limit, knows-next _ _ _ _ _ pre.first.line pre.first.known, refl)
 
-item-end-requires : tie.Need-item-end-requires invariant-loop decreases-loop
-item-end-requires c κs = let inv = c.loop.invariant in record { order = inv.0; text = inv.1; limit = inv.2; known = inv.3 }
+item-end-requires : tie.Need-item_end-further-requires invariant-loop-start decreases-loop-start
+item-end-requires c κs = let inv = c.loop-start.invariant in record { order = inv.0; text = inv.1; limit = inv.2; known = inv.3 }
 
 -- ---- after an item
 
 -- the list's lines from there on
-rest : (c : tie.After-item-end invariant-loop decreases-loop) →
+rest : (c : tie.After-item_end-further invariant-loop-start decreases-loop-start) →
     let args = c.before.before.before.args in
-    let run = c.item-end.result.run in
-    run_by (list_lines args.width 0) args.text.now run.end args.scope.end (c.before.loop.n + run.lines)
-    ≡ list_run args.text.now args.line.start args.scope.end
+    let run = c.item_end-further.result.run-1 in
+    run_by (list_lines args.width 0) args.text.now run.end args.scope.end (c.before.loop-start.n + run.lines)
+    ≡ list_run args.text.now args.line.start-1 args.scope.end
 rest c =
     let pre = c.before.before.before.requires in
-    list-item _ _ _ _ _ c.item-end.ensures.run _ ∙ c.before.loop.invariant.4 ∙ list-first _ _ _ _ pre.first.line pre.wide
+    list-item _ _ _ _ _ c.item_end-further.ensures.run-1 _ ∙ c.before.loop-start.invariant.4 ∙ list-first _ _ _ _ pre.first.line pre.wide
 
 -- no more are counted than there are bytes
-total : (c : tie.After-item-end invariant-loop decreases-loop) →
+total : (c : tie.After-item_end-further invariant-loop-start decreases-loop-start) →
     let args = c.before.before.before.args in
-    let run = c.item-end.result.run in
-    c.before.loop.n + run.lines + list_lines args.width 0 (lines_in args.text.now run.end args.scope.end) ≤ args.scope.end
+    let run = c.item_end-further.result.run-1 in
+    c.before.loop-start.n + run.lines + list_lines args.width 0 (lines_in args.text.now run.end args.scope.end) ≤ args.scope.end
 total c =
     let start = c.before.before.before in
     list-total _ _ _ _ start.requires.first.line start.requires.wide (list_lines start.args.width 0) _ _ (rest c)
 
-order : (c : tie.After-item-end invariant-loop decreases-loop) →
-    let run = c.item-end.result.run in
-    (c.before.loop.at ≤ run.end) × (run.end ≤ c.before.before.before.args.scope.end)
-order c = let inv = c.before.loop.invariant in item-order _ _ _ _ _ c.item-end.ensures.run inv.0 inv.1
+order : (c : tie.After-item_end-further invariant-loop-start decreases-loop-start) →
+    let run = c.item_end-further.result.run-1 in
+    (c.before.loop-start.at ≤ run.end) × (run.end ≤ c.before.before.before.args.scope.end)
+order c = let inv = c.before.loop-start.invariant in item-order _ _ _ _ _ c.item_end-further.ensures.run-1 inv.0 inv.1
 
-returns : tie.Need-returns invariant-loop decreases-loop
+returns : tie.Need-returns-in_default invariant-loop-start decreases-loop-start
 returns c =
     let at_next = c.before.before in
     let at_item = at_next.before.before.before in
-    let none = next-none _ _ _ (sym c.enum_told.given.1 ∙ at_next.find-next.ensures) (list-gapped _) in
-    record { run = run_by-none _ _ _ _ _ none ∙ rest at_item; known = at_item.item-end.ensures.known }
+    let none = next-none _ _ _ (sym c.enum_told-1.given.1 ∙ at_next.find_next.ensures) (list-gapped _) in
+    record { run = run_by-none _ _ _ _ _ none ∙ rest at_item; known = at_item.item_end-further.ensures.known }
 
 -- ---- the next line
 
-abbrev after-item : tie.After-start invariant-loop decreases-loop → tie.After-item-end invariant-loop decreases-loop
+abbrev after-item : tie.In-Line-2 invariant-loop-start decreases-loop-start → tie.After-item_end-further invariant-loop-start decreases-loop-start
 after-item c = c.before.before.before.before.before
 
-next : (c : tie.After-start invariant-loop decreases-loop) →
+next : (c : tie.In-Line-2 invariant-loop-start decreases-loop-start) →
     let args = (after-item c).before.before.before.args in
-    let line = c.start.given.0 in
-    IsNext args.text.now (after-item c).item-end.result.run.end args.scope.end line.0 line.1.0 line.1.1.0 line.1.1.1.0
-next c = next-is _ _ _ _ _ _ _ (sym c.start.given.1 ∙ c.before.before.find-next.ensures)
+    let line = c.start-1.given.0 in
+    IsNext args.text.now (after-item c).item_end-further.result.run-1.end args.scope.end line.0 line.1.0 line.1.1.0 line.1.1.1.0
+next c = next-is _ _ _ _ _ _ _ (sym c.start-1.given.1 ∙ c.before.before.find_next.ensures)
 
 -- where a fact of it ends the list
-stop : (c : tie.After-start invariant-loop decreases-loop) →
+stop : (c : tie.In-Line-2 invariant-loop-start decreases-loop-start) →
     let args = (after-item c).before.before.before.args in
-    let run = (after-item c).item-end.result.run in
-    let line = line_in args.text.now c.start.given.0.0 args.scope.end in
+    let run = (after-item c).item_end-further.result.run-1 in
+    let line = line_in args.text.now c.start-1.given.0.0 args.scope.end in
     (is_item line && eqb (width line) args.width) ≡ false
-    → line_run run.end ((after-item c).before.loop.n + run.lines) ≡ list_run args.text.now args.line.start args.scope.end
+    → line_run run.end ((after-item c).before.loop-start.n + run.lines) ≡ list_run args.text.now args.line.start-1 args.scope.end
 stop c h =
     let at_item = after-item c in
-    list-stop (next c) (order at_item).1 at_item.before.loop.inv.1 _ _ h ∙ rest at_item
+    list-stop (next c) (order at_item).1 at_item.before.loop-start.inv.1 _ _ h ∙ rest at_item
 
-returns-2 : tie.Need-returns-2 invariant-loop decreases-loop
+returns-2 : tie.Need-returns-then-indent-width invariant-loop-start decreases-loop-start
 returns-2 c =
     let at-line = c.before.before in
-    let other = ne_eqb _ _ (rw (next at-line).wide at c.if1.true) in
-    record { run = stop at-line (rw (other, and-false)); known = (after-item at-line).item-end.ensures.known }
+    let other = ne_eqb _ _ (rw (next at-line).wide at c.if-indent-width.true) in
+    record { run = stop at-line (rw (other, and-false)); known = (after-item at-line).item_end-further.ensures.known }
 
-is-item-requires : tie.Need-is-item-requires invariant-loop decreases-loop
+is-item-requires : tie.Need-is_item-requires invariant-loop-start decreases-loop-start
 is-item-requires c κs =
     let at-line = c.before.before in
     let line = next at-line in
-    (let h = line.some in omega arith, (after-item at-line).before.loop.invariant.1, line.body)
+    (let h = line.some in omega arith, (after-item at-line).before.loop-start.invariant.1, line.body)
 
-returns-3 : tie.Need-returns-3 invariant-loop decreases-loop
+returns-3 : tie.Need-returns-then-not-is_item invariant-loop-start decreases-loop-start
 returns-3 c =
     let at-line = c.before.before.before.before in
-    let plain = sym c.before.is-item.ensures ∙ not-true _ c.if2.true in
-    record { run = stop at-line (rw plain); known = (after-item at-line).item-end.ensures.known }
+    let plain = sym c.before.is_item.ensures ∙ not-true _ c.if-not-is_item.true in
+    record { run = stop at-line (rw plain); known = (after-item at-line).item_end-further.ensures.known }
 
 -- ---- an item line of the list's indentation
 
-line-end-requires : tie.Need-line-end-requires invariant-loop decreases-loop
+line-end-requires : tie.Need-line_end-at-requires invariant-loop-start decreases-loop-start
 line-end-requires c κs =
     let at-line = c.before.before.before.before in
     let line = next at-line in
-    let text = (after-item at-line).before.loop.invariant.1 in
+    let text = (after-item at-line).before.loop-start.invariant.1 in
     (after-to _ _ _ _ line.body (let h = line.some in omega arith) text, text)
 
 -- its end
-end : (c : tie.After-line-end invariant-loop decreases-loop) →
+end : (c : tie.After-line_end-at invariant-loop-start decreases-loop-start) →
     let at-line = c.before.before.before.before.before in
     let args = (after-item at-line).before.before.before.args in
-    let p = at-line.start.given.0.0 in
-    c.line-end.result ≡ p + length (line_in args.text.now p args.scope.end)
-end c = c.line-end.ensures ∙ after-end _ _ _ _ (next c.before.before.before.before.before).body
+    let p = at-line.start-1.given.0.0 in
+    c.line_end-at.result ≡ p + length (line_in args.text.now p args.scope.end)
+end c = c.line_end-at.ensures ∙ after-end _ _ _ _ (next c.before.before.before.before.before).body
 
-same : (c : tie.Else2 invariant-loop decreases-loop) →
+same : (c : tie.Else-not-is_item invariant-loop-start decreases-loop-start) →
     let at-line = c.before.before.before.before in
     let args = (after-item at-line).before.before.before.args in
-    let line = line_in args.text.now at-line.start.given.0.0 args.scope.end in
+    let line = line_in args.text.now at-line.start-1.given.0.0 args.scope.end in
     (is_item line && eqb (width line) args.width) ≡ true
 same c =
     let at-line = c.before.before.before.before in
-    let item = sym c.before.is-item.ensures ∙ not-false _ c.if2.false in
-    rw item (eq-eqb _ _ (sym (next at-line).wide ∙ c.before.before.if1.false))
+    let item = sym c.before.is_item.ensures ∙ not-false _ c.if-not-is_item.false in
+    rw item (eq-eqb _ _ (sym (next at-line).wide ∙ c.before.before.if-indent-width.false))
 
-passed : (c : tie.After-line-end invariant-loop decreases-loop) →
+passed : (c : tie.After-line_end-at invariant-loop-start decreases-loop-start) →
     let at-line = c.before.before.before.before.before in
     let at_item = after-item at-line in
     let to = at_item.before.before.before.args.scope.end in
-    (at_item.before.loop.n + at_item.item-end.result.run.lines + (at-line.start.given.0.1.1.1.0 + 1) ≤ to)
-    × (at_item.before.loop.at < c.line-end.result) × (c.line-end.result ≤ to)
+    (at_item.before.loop-start.n + at_item.item_end-further.result.run-1.lines + (at-line.start-1.given.0.1.1.1.0 + 1) ≤ to)
+    × (at_item.before.loop-start.at < c.line_end-at.result) × (c.line_end-at.result ≤ to)
 passed c =
     let at-line = c.before.before.before.before.before in
     let at_item = after-item at-line in
-    let text = at_item.before.loop.inv.1 in
+    let text = at_item.before.loop-start.inv.1 in
     let line = next at-line in
     let count = list_count line (order at_item).1 text _ (same c.before) in
     let further = line-next _ _ _ _ (end c) line.some text in
     omega (arith, total at_item, order at_item, next-from line)
 
-loop-again : tie.Need-loop-preserved invariant-loop decreases-loop
+loop-again : tie.Need-loop-start-preserved invariant-loop-start decreases-loop-start
 loop-again c =
     let at-line = c.before.before.before.before.before in
     let at_item = after-item at-line in
-    let inv = at_item.before.loop.inv in
+    let inv = at_item.before.loop-start.inv in
     let line = next at-line in (
       (passed c).2,
       inv.1,
       inv.2,
-      rw (end c) (knows_line _ _ _ _ _ (next-knows line _ _ at_item.item-end.ensures.known)),
-      list-pass line (order at_item).1 inv.1 _ (same c.before) _ _ (end c) ∙ list-item _ _ _ _ _ at_item.item-end.ensures.run _ ∙ inv.4,
+      rw (end c) (knows_line _ _ _ _ _ (next-knows line _ _ at_item.item_end-further.ensures.known)),
+      list-pass line (order at_item).1 inv.1 _ (same c.before) _ _ (end c) ∙ list-item _ _ _ _ _ at_item.item_end-further.ensures.run-1 _ ∙ inv.4,
     )
 
-pub list-end-spec : {M : Type 1} → statement M
-list-end-spec =
+pub list_end_spec : {M : Type 1} → statement M
+list_end_spec =
     tie.close
     (tie.spec
-    invariant-loop
-    decreases-loop
+    invariant-loop-start
+    decreases-loop-start
     loop-holds
     item-end-requires
     (λ c. omega (arith, total c.before.before))
-    (λ c κs. let inv = c.before.before.before.loop.invariant in omega (arith, order c.before.before))
+    (λ c κs. let inv = c.before.before.before.loop-start.invariant in omega (arith, order c.before.before))
     (λ c. search rules)
     (λ c. search rules)
     is-item-requires

@@ -12,33 +12,33 @@ use Rattle.rules.proofs.Laws.Together.{together-line}
 use Rattle.rules.proofs.list.together_end.Statement.{statement}
 use Rattle.rules.proofs.list.together_end.Tie as tie
 
-returns : tie.Need-returns
+returns : tie.Need-returns-then-e-le-TABLE
 returns c =
     let at-element = c.before.before.before in
     let at-rule = at-element.before.before in
-    let holds = sym at-element.e.given.1 ∙ at-rule.find-rule.ensures in
-    record { run = rule-together _ _ _ _ _ holds c.if1.true; known = knows-rule _ _ _ _ _ at-rule.before.before.requires.known _ _ holds }
+    let holds = sym at-element.e-1.given.1 ∙ at-rule.find_rule.ensures in
+    record { run = rule-together _ _ _ _ _ holds c.if-e-le-TABLE.true; known = knows-rule _ _ _ _ _ at-rule.before.before.requires.known _ _ holds }
 
-alone : (c : tie.At-match-branch) → let args = c.before.before.before.args in
+alone : (c : tie.Joined-find_rule) → let args = c.before.before.before.args in
     Alone (lines_in args.text.now args.line.start args.scope.end)
 alone c =
-    let found = c.before.find-rule.ensures in
+    let found = c.before.find_rule.ensures in
     ⊎_elim
     (λ w. let (m, e, k, s, high) = w in rule-alone _ _ _ _ _ (sym e.given.1 ∙ found) high.left)
     (λ w. no-rule-alone _ _ _ _ (sym w.1.given.1 ∙ found))
-    c.match.branch
+    c.in-Holds.branch
 
-returns-2 : tie.Need-returns-2
+returns-2 : tie.Need-returns
 returns-2 c =
     let at-ends = c.before in
     let at-match = at-ends.before in
     record {
       run = together-line _ _ _ at-match.before.before.before.requires.line (alone at-match);
-      known = record { ends = at-ends.ends-after.ensures; names = c.names-after.ensures };
+      known = record { ends = at-ends.ends_after.ensures; names = c.names_after.ensures };
     }
 
-pub together-end-spec : {M : Type 1} → statement M
-together-end-spec =
+pub together_end_spec : {M : Type 1} → statement M
+together_end_spec =
     tie.close
     (tie.spec
     (λ c κs. search rules)

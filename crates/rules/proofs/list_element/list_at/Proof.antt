@@ -8,25 +8,25 @@ use Rattle.rules.proofs.Laws.ListElements.{list-spanned}
 use Rattle.rules.proofs.list_element.list_at.Statement.{statement}
 use Rattle.rules.proofs.list_element.list_at.Tie as tie
 
-indent-width-requires : tie.Need-indent-width-requires
+indent-width-requires : tie.Need-indent_width-width-requires
 indent-width-requires c κs =
     let o = line_of-order _ _ _ c.before.requires.0.line in
     let limit = c.before.requires.1 in
     omega arith
 
-list-end-requires : tie.Need-list-end-requires
+list-end-requires : tie.Need-list_end-further-requires
 list-end-requires c κs =
     let pre = c.before.before.requires in
     record {
       first = pre.0;
       limit = pre.1;
-      wide = c.indent-width.ensures ∙ sym (width-part _ _ _ _ (line_of-from _ _ _ pre.0.line));
+      wide = c.indent_width-width.ensures ∙ sym (width-part _ _ _ _ (line_of-from _ _ _ pre.0.line));
     }
 
 returns : tie.Need-returns
 returns c =
     let at-end = c.before.before in
-    record { is = list-spanned _ _ _ _ _ c.list-detail.ensures at-end.list-end.ensures.run; known = at-end.list-end.ensures.known }
+    record { is = list-spanned _ _ _ _ _ c.list_detail.ensures at-end.list_end-further.ensures.run-1; known = at-end.list_end-further.ensures.known }
 
-pub list-at-spec : {M : Type 1} → statement M
-list-at-spec = tie.close (tie.spec indent-width-requires list-end-requires (λ c κs. c.before.before.before.before.requires.0.line) returns)
+pub list_at_spec : {M : Type 1} → statement M
+list_at_spec = tie.close (tie.spec indent-width-requires list-end-requires (λ c κs. c.before.before.before.before.requires.0.line) returns)

@@ -9,30 +9,30 @@ use Rattle.rules.proofs.Laws.Openers.{search-outside, search-behind, search-insi
 use Rattle.rules.proofs.opener.search_from.Statement.{statement}
 use Rattle.rules.proofs.opener.search_from.Tie as tie
 
-returns : tie.Need-returns
-returns c = c.no-search.ensures ∙ search-outside _ _ _ c.before.if1.true
+returns : tie.Need-returns-then-text-to
+returns c = c.no_search.ensures ∙ search-outside _ _ _ c.before.if-text-to.true
 
-returns-2 : tie.Need-returns-2
-returns-2 c = c.no-search2.ensures ∙ search-behind _ _ _ c.before.if2.true
+returns-2 : tie.Need-returns-then-to-at
+returns-2 c = c.no_search-then-to-at.ensures ∙ search-behind _ _ _ c.before.if-to-at.true
 
-returns-3 : tie.Need-returns-3
+returns-3 : tie.Need-returns-then-not-starts_line
 returns-3 c =
     let at-start = c.before.before in
-    c.no-search3.ensures ∙ search-inside _ _ _ (sym at-start.starts-line.ensures ∙ not-true _ c.before.if3.true)
+    c.no_search-then-not-starts_line.ensures ∙ search-inside _ _ _ (sym at-start.starts_line.ensures ∙ not-true _ c.before.if-not-starts_line.true)
 
-search-from-line-requires : tie.Need-search-from-line-requires
-search-from-line-requires c κs = line_of _ _ _ _ c.before.before.before.if2.false c.before.before.before.before.if1.false c.line_at.ensures
+search-from-line-requires : tie.Need-search_from_line-requires
+search-from-line-requires c κs = line_of _ _ _ _ c.before.before.before.if-to-at.false c.before.before.before.before.if-text-to.false c.line_at-line.ensures
 
-returns-4 : tie.Need-returns-4
+returns-4 : tie.Need-returns
 returns-4 c =
     let at-line = c.before in
     let at-start = at-line.before.before in
-    rw (line_span-start _ _ _ _ at-line.line_at.ensures) at c.search-from-line.ensures
-    ∙ search-line _ _ _ at-start.before.before.if1.false at-start.before.if2.false
-    (sym at-start.starts-line.ensures ∙ not-false _ at-line.before.if3.false)
+    rw (line_span-start _ _ _ _ at-line.line_at-line.ensures) at c.search_from_line.ensures
+    ∙ search-line _ _ _ at-start.before.before.if-text-to.false at-start.before.if-to-at.false
+    (sym at-start.starts_line.ensures ∙ not-false _ at-line.before.if-not-starts_line.false)
 
-pub search-from-spec : {M : Type 1} → statement M
-search-from-spec =
+pub search_from_spec : {M : Type 1} → statement M
+search_from_spec =
     tie.close
     (tie.spec
     (λ c κs. search rules)

@@ -17,68 +17,68 @@ use Rattle.rules.proofs.Laws.Openers.{opener-drawer, opener-none, opener-block}
 use Rattle.rules.proofs.opener.search_from_line.Statement.{statement}
 use Rattle.rules.proofs.opener.search_from_line.Tie as tie
 
-find-end-requires : tie.Need-find-end-requires
+find-end-requires : tie.Need-find_end-requires
 find-end-requires c κs = let o = line_of-order _ _ _ c.before.before.before.requires in omega arith
 
-returns : tie.Need-returns
+returns : tie.Need-returns-then-is_drawer_line
 returns c =
     let at-drawer = c.before.before in
     let start = at-drawer.before.before in
-    c.find-end.ensures ∙ rw (line_of-end _ _ _ start.requires) (opener-drawer _ _ _ (sym at-drawer.is-drawer-line.ensures ∙ c.before.if1.true))
+    c.find_end.ensures ∙ rw (line_of-end _ _ _ start.requires) (opener-drawer _ _ _ (sym at-drawer.is_drawer_line.ensures ∙ c.before.if-is_drawer_line.true))
 
 -- ---- it opens no drawer
 
-other : (c : tie.Else1) → let args = c.before.before.before.args in is_drawer_line (line_in args.text.now args.line.start args.to) ≡ false
-other c = sym c.before.is-drawer-line.ensures ∙ c.if1.false
+other : (c : tie.Else-is_drawer_line) → let args = c.before.before.before.args in is_drawer_line (line_in args.text.now args.line.start args.to) ≡ false
+other c = sym c.before.is_drawer_line.ensures ∙ c.if-is_drawer_line.false
 
-begins-with-requires : tie.Need-begins-with-requires
+begins-with-requires : tie.Need-begins_with-requires
 begins-with-requires c κs = let o = line_of-order _ _ _ c.before.before.before.before.requires in (o.1, omega arith)
 
-returns-2 : tie.Need-returns-2
+returns-2 : tie.Need-returns-then-not-begins_with
 unfolding word
 returns-2 c =
     let at-begin = c.before.before in
     let at_other = at-begin.before.before in
-    let no = sym at-begin.begins-with.ensures ∙ not-true _ c.before.if2.true in
-    c.no-search.ensures ∙ opener-none _ _ _ (other at_other) (unnamed-no _ _ _ at_other.before.before.before.requires no)
+    let no = sym at-begin.begins_with.ensures ∙ not-true _ c.before.if-not-begins_with.true in
+    c.no_search.ensures ∙ opener-none _ _ _ (other at_other) (unnamed-no _ _ _ at_other.before.before.before.requires no)
 
 -- ---- the body begins with `#+begin_`
 
-begin : (c : tie.Else2) → let args = c.before.before.before.before.before.before.args in
+begin : (c : tie.Else-not-begins_with) → let args = c.before.before.before.before.before.before.args in
     begins (part args.text.now args.line.from args.line.to) (word "#+begin_") ≡ true
 unfolding word
-begin c = sym c.before.begins-with.ensures ∙ not-false _ c.if2.false
+begin c = sym c.before.begins_with.ensures ∙ not-false _ c.if-not-begins_with.false
 
-name : (c : tie.Else2) → let args = c.before.before.before.before.before.before.args in
+name : (c : tie.Else-not-begins_with) → let args = c.before.before.before.before.before.before.args in
     (args.line.from + 8 ≤ args.line.to) × (args.line.to ≤ length args.text.now)
 name c = begin-order _ _ _ c.before.before.before.before.before.before.requires (begin c)
 
-returns-3 : tie.Need-returns-3
+returns-3 : tie.Need-returns-then-end-name
 returns-3 c =
     let at_name = c.before.before in
     let at-begin = at_name.before.before in
     let at_other = at-begin.before.before.before in
     let pre = at_other.before.before.before.requires in
-    let no = unnamed-empty _ _ _ pre (begin at-begin) _ at_name.word-end.ensures c.before.if3.true in
-    c.no-search2.ensures ∙ opener-none _ _ _ (other at_other) no
+    let no = unnamed-empty _ _ _ pre (begin at-begin) _ at_name.word_end-end.ensures c.before.if-end-name.true in
+    c.no_search-then-end-name.ensures ∙ opener-none _ _ _ (other at_other) no
 
 -- the name's end
-ends : (c : tie.After-word-end) → let args = c.before.before.before.before.before.before.before.before.args in
-    (args.line.from + 8 ≤ c.word-end.result) × (c.word-end.result ≤ args.line.to) × (args.line.to ≤ length args.text.now)
+ends : (c : tie.After-word_end-end) → let args = c.before.before.before.before.before.before.before.before.args in
+    (args.line.from + 8 ≤ c.word_end-end.result) × (c.word_end-end.result ≤ args.line.to) × (args.line.to ≤ length args.text.now)
 ends c =
     let at-begin = c.before.before in
-    name-order _ _ _ at-begin.before.before.before.before.before.before.requires (begin at-begin) _ c.word-end.ensures
+    name-order _ _ _ at-begin.before.before.before.before.before.before.requires (begin at-begin) _ c.word_end-end.ensures
 
-find-closer-requires : tie.Need-find-closer-requires
+find-closer-requires : tie.Need-find_closer-requires
 unfolding word
 find-closer-requires c κs =
     let at_name = c.before.before.before in
     let at-begin = at_name.before.before in
     let pre = at-begin.before.before.before.before.before.before.requires in
     let o = line_of-order _ _ _ pre in
-    (o.4, o.5, rw (part_slice _ _ _ (ends at_name).0) (closer-bytes _ _ _ pre (begin at-begin) _ at_name.word-end.ensures))
+    (o.4, o.5, rw (part_slice _ _ _ (ends at_name).0) (closer-bytes _ _ _ pre (begin at-begin) _ at_name.word_end-end.ensures))
 
-returns-4 : tie.Need-returns-4
+returns-4 : tie.Need-returns
 unfolding word
 returns-4 c =
     let at_test = c.before.before.before in
@@ -86,13 +86,13 @@ returns-4 c =
     let at-begin = at_name.before.before in
     let at_other = at-begin.before.before.before in
     let start = at_other.before.before.before in
-    let part-is = block_name-part _ _ _ start.requires (begin at-begin) _ at_name.word-end.ensures in
-    let some = block-name _ _ _ start.requires (begin at-begin) _ at_name.word-end.ensures at_test.if3.false in
-    rw (part_slice _ _ _ (ends at_name).0) at c.find-closer.ensures
+    let part-is = block_name-part _ _ _ start.requires (begin at-begin) _ at_name.word_end-end.ensures in
+    let some = block-name _ _ _ start.requires (begin at-begin) _ at_name.word_end-end.ensures at_test.if-end-name.false in
+    rw (part_slice _ _ _ (ends at_name).0) at c.find_closer.ensures
     ∙ rw (← part-is, line_of-end _ _ _ start.requires) (opener-block _ _ _ (other at_other) some)
 
-pub search-from-line-spec : {M : Type 1} → statement M
-search-from-line-spec =
+pub search_from_line_spec : {M : Type 1} → statement M
+search_from_line_spec =
     tie.close
     (tie.spec
     (λ c κs. search rules)

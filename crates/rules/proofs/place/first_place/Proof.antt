@@ -12,16 +12,16 @@ use Rattle.rules.specs.Places.{after_blank}
 use Rattle.rules.proofs.place.first_place.Statement.{statement}
 use Rattle.rules.proofs.place.first_place.Tie as tie
 
-returns : tie.Need-returns
-returns c = rw (not-true c.before.args.blank c.if1.true)
+returns : tie.Need-returns-then-not-blank
+returns c = rw (not-true c.before.args.blank c.if-not-blank.true)
 
 -- ---- after blank lines
 
-blank : (c : tie.Else1) → c.before.args.blank ≡ true
-blank c = not-false c.before.args.blank c.if1.false
+blank : (c : tie.Else-not-blank) → c.before.args.blank ≡ true
+blank c = not-false c.before.args.blank c.if-not-blank.false
 
-returns-2 : tie.Need-returns-2
-returns-2 c = rw (blank c.before.before, c.enum_told.given.1)
+returns-2 : tie.Need-returns-in-Opening
+returns-2 c = rw (blank c.before.before, c.enum_told-1.given.1)
 
 after_blank-other : (pl : Place) → (pl ≡ Opening → ⊥) → after_blank pl ≡ Elsewhere
 after_blank-other AfterHeading h = refl
@@ -31,10 +31,10 @@ after_blank-other AfterComment h = refl
 after_blank-other Elsewhere h = refl
 after_blank-other InLine h = refl
 
-returns-3 : tie.Need-returns-3
+returns-3 : tie.Need-returns-in_default
 returns-3 c =
     let place = c.before.before.args.place in
-    rw (blank c.before) (sym (after_blank-other place (λ e. miss (0 ∷ 1 ∷ 3 ∷ 4 ∷ 5 ∷ []) 2 tt (rw e at c.match.keys2))))
+    rw (blank c.before) (sym (after_blank-other place (λ e. miss (0 ∷ 1 ∷ 3 ∷ 4 ∷ 5 ∷ []) 2 tt (rw e at c.in-Opening.keys2))))
 
-pub first-place-spec : {M : Type 1} → statement M
-first-place-spec = tie.close (tie.spec returns (λ c. search rules) returns-2 returns-3)
+pub first_place_spec : {M : Type 1} → statement M
+first_place_spec = tie.close (tie.spec returns (λ c. search rules) returns-2 returns-3)

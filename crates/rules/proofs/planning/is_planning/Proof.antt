@@ -6,11 +6,11 @@ use Rattle.rules.proofs.Laws.LineTests.{is_planning-part}
 use Rattle.rules.proofs.planning.is_planning.Statement.{statement}
 use Rattle.rules.proofs.planning.is_planning.Tie as tie
 
-is-planning-requires : tie.Need-is-planning-requires
+is-planning-requires : tie.Need-is_planning-requires
 is-planning-requires c κs = omega (arith, line_of-order _ _ _ c.before.requires)
 
 returns : tie.Need-returns
-returns c = rw (is_planning-part _ _ _ c.before.before.requires) c.is-planning.ensures
+returns c = rw (is_planning-part _ _ _ c.before.before.requires) c.is_planning.ensures
 
-pub is-planning-spec : {M : Type 1} → statement M
-is-planning-spec = tie.close (tie.spec is-planning-requires returns)
+pub is_planning_spec : {M : Type 1} → statement M
+is_planning_spec = tie.close (tie.spec is-planning-requires returns)

@@ -14,23 +14,23 @@ use Rattle.rules.proofs.Laws.Rules.{planning-no, planning-yes}
 use Rattle.rules.proofs.planning.try_planning.Statement.{statement}
 use Rattle.rules.proofs.planning.try_planning.Tie as tie
 
-returns : tie.Need-returns
+returns : tie.Need-returns-in_default
 returns c =
     let start = c.before.before in
-    planning-no _ _ _ start.requires.line _ (rw (allows_planning-no start.args.scope.place (λ e. miss (1 ∷ 2 ∷ 3 ∷ 4 ∷ 5 ∷ []) 0 tt (rw e at c.match.keys2))))
+    planning-no _ _ _ start.requires.line _ (rw (allows_planning-no start.args.scope.place (λ e. miss (1 ∷ 2 ∷ 3 ∷ 4 ∷ 5 ∷ []) 0 tt (rw e at c.in-AfterHeading.keys2))))
 
 -- the place allows it, so the line decides
-line : (c : tie.After-is-planning) → let start = c.before.before.before.before in
+line : (c : tie.After-is_planning) → let start = c.before.before.before.before in
     (allows_planning start.args.scope.place && is_planning (line_in start.args.text.now start.args.line.start start.args.scope.end))
-    ≡ c.is-planning.result
+    ≡ c.is_planning.result
 unfolding allows_planning
-line c = rw c.before.enum_told.given.1 (sym c.is-planning.ensures)
+line c = rw c.before.enum_told-1.given.1 (sym c.is_planning.ensures)
 
-returns-2 : tie.Need-returns-2
-returns-2 c = planning-no _ _ _ c.before.before.before.before.before.requires.line _ (line c.before ∙ not-true _ c.if1.true)
+returns-2 : tie.Need-returns-then-not-is_planning
+returns-2 c = planning-no _ _ _ c.before.before.before.before.before.requires.line _ (line c.before ∙ not-true _ c.if-not-is_planning.true)
 
-returns-3 : tie.Need-returns-3
-returns-3 c = planning-yes _ _ _ c.before.before.before.before.before.requires.line _ (line c.before ∙ not-false _ c.if1.false)
+returns-3 : tie.Need-returns
+returns-3 c = planning-yes _ _ _ c.before.before.before.before.before.requires.line _ (line c.before ∙ not-false _ c.if-not-is_planning.false)
 
-pub try-planning-spec : {M : Type 1} → statement M
-try-planning-spec = tie.close (tie.spec (λ c. search rules) returns (λ c κs. search rules) returns-2 returns-3)
+pub try_planning_spec : {M : Type 1} → statement M
+try_planning_spec = tie.close (tie.spec (λ c. search rules) returns (λ c κs. search rules) returns-2 returns-3)

@@ -6,20 +6,20 @@ use Rattle.rules.proofs.Laws.Names.{between_colons-few, between_colons-test}
 use Rattle.rules.proofs.property.is_between_colons.Statement.{statement}
 use Rattle.rules.proofs.property.is_between_colons.Tie as tie
 
-returns : tie.Need-returns
-returns c = rw (between_colons-few _ _ _ c.before.requires.1 c.if1.true)
+returns : tie.Need-returns-then-to-from-lt3
+returns c = rw (between_colons-few _ _ _ c.before.requires.1 c.if-to-from-lt3.true)
 
-returns-2 : tie.Need-returns-2
+returns-2 : tie.Need-returns-then-text-from-eq58
 returns-2 c =
     let at_test = c.before.before.before in
-    rw (between_colons-test _ _ _ at_test.before.requires.1 at_test.if1.false, eq-eqb _ _ c.before.if2.true)
+    rw (between_colons-test _ _ _ at_test.before.requires.1 at_test.if-to-from-lt3.false, eq-eqb _ _ c.before.if-text-from-eq58.true)
 
-returns-3 : tie.Need-returns-3
+returns-3 : tie.Need-returns-else-text-from-eq58
 returns-3 c =
     let at_test = c.before.before in
-    rw (between_colons-test _ _ _ at_test.before.requires.1 at_test.if1.false, ne_eqb _ _ c.if2.false)
+    rw (between_colons-test _ _ _ at_test.before.requires.1 at_test.if-to-from-lt3.false, ne_eqb _ _ c.if-text-from-eq58.false)
 
-pub is-between-colons-spec : {M : Type 1} → statement M
-is-between-colons-spec =
+pub is_between_colons_spec : {M : Type 1} → statement M
+is_between_colons_spec =
     tie.close
     (tie.spec (λ c. omega arith) returns (λ c. omega arith) (λ c. omega arith) (λ c. omega arith) returns-2 returns-3)

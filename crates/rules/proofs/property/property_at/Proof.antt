@@ -18,51 +18,51 @@ use Rattle.rules.proofs.Laws.Findings.{property_of-no, property_of-part}
 use Rattle.rules.proofs.property.property_at.Statement.{statement}
 use Rattle.rules.proofs.property.property_at.Tie as tie
 
-word-end-requires : tie.Need-word-end-requires
+word-end-requires : tie.Need-word_end-end-requires
 word-end-requires c κs = let o = line_of-order _ _ _ c.before.requires in (o.1, omega arith)
 
-is-between-colons-requires : tie.Need-is-between-colons-requires
-is-between-colons-requires c κs = let o = first_run-order _ _ _ c.before.before.requires _ c.word-end.ensures in (o.0, omega arith)
+is-between-colons-requires : tie.Need-is_between_colons-requires
+is-between-colons-requires c κs = let o = first_run-order _ _ _ c.before.before.requires _ c.word_end-end.ensures in (o.0, omega arith)
 
-returns : tie.Need-returns
+returns : tie.Need-returns-then-not-is_between_colons
 returns c =
     let at-run = c.before.before in
     sym (property_of-no _ _
-    (is_node_property-none _ _ _ at-run.before.before.requires _ at-run.word-end.ensures
-    (sym c.before.is-between-colons.ensures ∙ not-true _ c.if1.true)))
+    (is_node_property-none _ _ _ at-run.before.before.requires _ at-run.word_end-end.ensures
+    (sym c.before.is_between_colons.ensures ∙ not-true _ c.if-not-is_between_colons.true)))
 
 -- the colons stand
-colons : (c : tie.Else1) → let at-run = c.before.before in
+colons : (c : tie.Else-not-is_between_colons) → let at-run = c.before.before in
     let start = at-run.before.before in
-    not (is_empty (between_colons (part start.args.text.now start.args.line.from at-run.word-end.result))) ≡ true
-colons c = sym c.before.is-between-colons.ensures ∙ not-false _ c.if1.false
+    not (is_empty (between_colons (part start.args.text.now start.args.line.from at-run.word_end-end.result))) ≡ true
+colons c = sym c.before.is_between_colons.ensures ∙ not-false _ c.if-not-is_between_colons.false
 
-order : (c : tie.Else1) → let at-run = c.before.before in
+order : (c : tie.Else-not-is_between_colons) → let at-run = c.before.before in
     let start = at-run.before.before in
-    (3 ≤ at-run.word-end.result - start.args.line.from) × (at-run.word-end.result ≤ length start.args.text.now)
-order c = let at-run = c.before.before in property_name-order _ _ _ at-run.before.before.requires _ at-run.word-end.ensures (colons c)
+    (3 ≤ at-run.word_end-end.result - start.args.line.from) × (at-run.word_end-end.result ≤ length start.args.text.now)
+order c = let at-run = c.before.before in property_name-order _ _ _ at-run.before.before.requires _ at-run.word_end-end.ensures (colons c)
 
 -- the name ends at `name`
-named : (c : tie.Joined2) → let at_test = c.before.before in
+named : (c : tie.Joined-text-name-eq43) → let at_test = c.before.before in
     let at-run = at_test.before.before in
     let start = at-run.before.before in
     let s = start.args.text.now in
     let l = start.args.line in
-    property_name (line_in s l.start start.args.to) ≡ part s (l.from + 1) c.if2.name
+    property_name (line_in s l.start start.args.to) ≡ part s (l.from + 1) c.if-text-name-eq43.name
 named c =
     let at_test = c.before.before in
     let at-run = at_test.before.before in
     let pre = at-run.before.before.requires in
     ⊎_elim
-    (λ w. rw w.1 (property_name-plus _ _ _ pre _ at-run.word-end.ensures (colons at_test) w.0.taken))
-    (λ w. rw w.1 (property_name-whole _ _ _ pre _ at-run.word-end.ensures (colons at_test) w.0.left))
-    c.if2.branch
+    (λ w. rw w.1 (property_name-plus _ _ _ pre _ at-run.word_end-end.ensures (colons at_test) w.0.taken))
+    (λ w. rw w.1 (property_name-whole _ _ _ pre _ at-run.word_end-end.ensures (colons at_test) w.0.left))
+    c.if-text-name-eq43.branch
 
-within : (c : tie.Joined2) → let at-run = c.before.before.before.before in
-    (c.if2.name ≤ at-run.word-end.result) × (at-run.word-end.result ≤ length at-run.before.before.args.text.now)
-within c = let o = order c.before.before in (⊎_elim (λ w. omega arith) (λ w. omega arith) c.if2.branch, o.1)
+within : (c : tie.Joined-text-name-eq43) → let at-run = c.before.before.before.before in
+    (c.if-text-name-eq43.name ≤ at-run.word_end-end.result) × (at-run.word_end-end.result ≤ length at-run.before.before.args.text.now)
+within c = let o = order c.before.before in (⊎_elim (λ w. omega arith) (λ w. omega arith) c.if-text-name-eq43.branch, o.1)
 
-returns-2 : tie.Need-returns-2
+returns-2 : tie.Need-returns-then-name-from
 returns-2 c =
     let at_name = c.before in
     let o = within at_name in
@@ -70,9 +70,9 @@ returns-2 c =
     (⊎_elim
     (λ w. is_node_property-empty _ _ _ _ (named at_name) w.taken)
     (λ w. is_node_property-plus _ _ _ _ (named at_name) w.0.left (omega arith) (eqb-true _ _ w.3.taken))
-    c.if3.branch))
+    c.if-name-from.branch))
 
-returns-3 : tie.Need-returns-3
+returns-3 : tie.Need-returns
 returns-3 c =
     let at_test = c.before.before.before in
     let at_name = at_test.before in
@@ -80,11 +80,11 @@ returns-3 c =
     let pre = at-run.before.before.requires in
     let n = named at_name in
     let o = within at_name in
-    property_of-part _ _ _ _ _ pre (is_node_property-yes _ _ _ _ n at_test.if3.false (omega arith) (eqb-false _ _ c.if4.false)) n
-    (first_run-part _ _ _ pre _ at-run.word-end.ensures) (omega arith)
+    property_of-part _ _ _ _ _ pre (is_node_property-yes _ _ _ _ n at_test.if-name-from.false (omega arith) (eqb-false _ _ c.if-text-name-eq43-2.false)) n
+    (first_run-part _ _ _ pre _ at-run.word_end-end.ensures) (omega arith)
 
-pub property-at-spec : {M : Type 1} → statement M
-property-at-spec =
+pub property_at_spec : {M : Type 1} → statement M
+property_at_spec =
     tie.close
     (tie.spec
     word-end-requires

@@ -10,56 +10,56 @@ use Rattle.sheet.proofs.Laws.Buffer.{low-none, low_turn, reach-none, reach-more,
 use Rattle.sheet.proofs.buffer.low_first.Statement.{statement}
 use Rattle.sheet.proofs.buffer.low_first.Tie as tie
 
-abbrev invariant-loop : tie.invariant-loop
-invariant-loop buffer at width n₀ i₀ n i = (i ≤ width) × (n ≡ low_first (part buffer (at + i) (at + width))) × (n < reach (width - i))
+abbrev invariant-loop-i : tie.invariant-loop-i
+invariant-loop-i buffer at width n₀ i₀ n i = (i ≤ width) × (n ≡ low_first (part buffer (at + i) (at + width))) × (n < reach (width - i))
 
-abbrev decreases-loop : tie.decreases-loop
-decreases-loop buffer at width n₀ i₀ n i = i
+abbrev decreases-loop-i : tie.decreases-loop-i
+decreases-loop-i buffer at width n₀ i₀ n i = i
 
-loop-holds : tie.Need-loop-init invariant-loop decreases-loop
+loop-holds : tie.Need-loop-i-init invariant-loop-i decreases-loop-i
 loop-holds c = let w = c.args.width in let k : w - w ≡ 0 = omega arith in (omega arith, low-none _ _ _ (omega arith), rw k reach-none)
 
-mul-n : tie.Need-overflow-mul-n invariant-loop decreases-loop
-mul-n c = let l = c.before.loop in omega (arith, reach-fits (c.before.before.args.width - l.i) (omega arith))
+mul-n : tie.Need-overflow-mul-n invariant-loop-i decreases-loop-i
+mul-n c = let l = c.before.loop-i in omega (arith, reach-fits (c.before.before.args.width - l.i) (omega arith))
 
-add-n-2 : tie.Need-overflow-add-n-2 invariant-loop decreases-loop
+add-n-2 : tie.Need-overflow-add-n-2 invariant-loop-i decreases-loop-i
 add-n-2 c =
     let at-loop = c.before.before in
     let a = at-loop.before.args in
-    omega (arith, reach-fits (a.width - at-loop.loop.i) (omega arith), c.shared-slice-known.given (a.at + (at-loop.loop.i - 1)))
+    omega (arith, reach-fits (a.width - at-loop.loop-i.i) (omega arith), c.shared_slice_known-1.given (a.at + (at-loop.loop-i.i - 1)))
 
-loop-again : tie.Need-loop-preserved invariant-loop decreases-loop
+loop-again : tie.Need-loop-i-preserved invariant-loop-i decreases-loop-i
 loop-again c =
     let at-loop = c.before.before in
     let a = at-loop.before.args in
-    let i = at-loop.loop.i in
+    let i = at-loop.loop-i.i in
     let p : a.at + (i - 1) + 1 ≡ a.at + i = omega arith in
     let w : a.width - (i - 1) ≡ a.width - i + 1 = omega arith in (
       omega arith,
-      low_turn _ (a.at + (i - 1)) _ (omega arith) (omega arith) _ (rw p at-loop.loop.invariant.1),
-      rw (w, reach-more (a.width - i)) (omega (arith, c.shared-slice-known.given (a.at + (i - 1)))),
+      low_turn _ (a.at + (i - 1)) _ (omega arith) (omega arith) _ (rw p at-loop.loop-i.invariant.1),
+      rw (w, reach-more (a.width - i)) (omega (arith, c.shared_slice_known-1.given (a.at + (i - 1)))),
     )
 
-returns : tie.Need-returns invariant-loop decreases-loop
+returns : tie.Need-returns invariant-loop-i decreases-loop-i
 returns c =
     let at-loop = c.before in
     let a = at-loop.before.args in
-    let p : a.at + at-loop.loop.i ≡ a.at = omega arith in
-    let w : a.width - at-loop.loop.i ≡ a.width = omega arith in
-    (rw p at at-loop.loop.invariant.1, rw w at at-loop.loop.invariant.2)
+    let p : a.at + at-loop.loop-i.i ≡ a.at = omega arith in
+    let w : a.width - at-loop.loop-i.i ≡ a.width = omega arith in
+    (rw p at at-loop.loop-i.invariant.1, rw w at at-loop.loop-i.invariant.2)
 
-pub low-first-spec : {M : Type 1} → statement M
-low-first-spec =
+pub low_first_spec : {M : Type 1} → statement M
+low_first_spec =
     tie.close
     (tie.spec
-    invariant-loop
-    decreases-loop
+    invariant-loop-i
+    decreases-loop-i
     loop-holds
     (λ c. omega arith)
     mul-n
     (λ c. omega arith)
     (λ c. omega arith)
-    (λ c. omega (arith, c.shared-slice-known.given (c.before.before.before.args.at + (c.before.before.loop.i - 1))))
+    (λ c. omega (arith, c.shared_slice_known-1.given (c.before.before.before.args.at + (c.before.before.loop-i.i - 1))))
     add-n-2
     (λ c. omega arith)
     loop-again

@@ -15,54 +15,54 @@ use Rattle.sheet.proofs.faults.has_bad_name.Tie as tie
 abbrev bad : Pair → Bool
 bad p = is_bad_name p.key
 
-abbrev invariant-loop : tie.invariant-loop
-invariant-loop buffer start count at₀ n₀ at n = HasPairs buffer at n × (some_pair bad (pairs_at buffer at n) ≡ some_pair bad (pairs_at buffer start count))
+abbrev invariant-loop-n : tie.invariant-loop-n
+invariant-loop-n buffer start count at₀ n₀ at n = HasPairs buffer at n × (some_pair bad (pairs_at buffer at n) ≡ some_pair bad (pairs_at buffer start count))
 
-abbrev decreases-loop : tie.decreases-loop
-decreases-loop buffer start count at₀ n₀ at n = n
+abbrev decreases-loop-n : tie.decreases-loop-n
+decreases-loop-n buffer start count at₀ n₀ at n = n
 
-loop-holds : tie.Need-loop-init invariant-loop decreases-loop
+loop-holds : tie.Need-loop-n-init invariant-loop-n decreases-loop-n
 loop-holds c = (c.before.requires, refl)
 
-pair-at-requires : tie.Need-pair-at-requires invariant-loop decreases-loop
-pair-at-requires c κs = pairs_first _ _ _ c.before.loop.invariant.0 c.loop-test.true
+pair-at-requires : tie.Need-pair_at-pair-requires invariant-loop-n decreases-loop-n
+pair-at-requires c κs = pairs_first _ _ _ c.before.loop-n.invariant.0 c.loop-n-test.true
 
 -- what was asked of the key
-asked : (c : tie.After-is-bad-name invariant-loop decreases-loop) →
+asked : (c : tie.After-is_bad_name invariant-loop-n decreases-loop-n) →
     let at_pair = c.before.before in
-    c.is-bad-name.result ≡ bad (pair_of at_pair.before.before.before.before.args.buffer.now at_pair.pair-at.result)
-asked c = rw (part_slice _ _ _ c.before.before.pair-at.ensures.spans.key) at c.is-bad-name.ensures
+    c.is_bad_name.result ≡ bad (pair_of at_pair.before.before.before.before.args.buffer.now at_pair.pair_at-pair.result)
+asked c = rw (part_slice _ _ _ c.before.before.pair_at-pair.ensures.spans.key) at c.is_bad_name.ensures
 
-returns : tie.Need-returns invariant-loop decreases-loop
+returns : tie.Need-returns-then-is_bad_name invariant-loop-n decreases-loop-n
 returns c =
     let at_pair = c.before.before.before in
     let at_test = at_pair.before in
-    let l = at_test.before.loop in
-    sym (some-here _ _ _ l.invariant.0 at_test.loop-test.true _ at_pair.pair-at.ensures bad (sym (asked c.before) ∙ c.if1.true)) ∙ l.invariant.1
+    let l = at_test.before.loop-n in
+    sym (some-here _ _ _ l.invariant.0 at_test.loop-n-test.true _ at_pair.pair_at-pair.ensures bad (sym (asked c.before) ∙ c.if-is_bad_name.true)) ∙ l.invariant.1
 
-loop-again : tie.Need-loop-preserved invariant-loop decreases-loop
+loop-again : tie.Need-loop-n-preserved invariant-loop-n decreases-loop-n
 loop-again c =
     let at_pair = c.before.before.before in
     let at_test = at_pair.before in
-    let l = at_test.before.loop in (
-      pairs-left _ _ _ l.invariant.0 at_test.loop-test.true _ at_pair.pair-at.ensures,
-      sym (some-skip _ _ _ l.invariant.0 at_test.loop-test.true _ at_pair.pair-at.ensures bad (sym (asked c.before) ∙ c.if1.false)) ∙ l.invariant.1,
+    let l = at_test.before.loop-n in (
+      pairs-left _ _ _ l.invariant.0 at_test.loop-n-test.true _ at_pair.pair_at-pair.ensures,
+      sym (some-skip _ _ _ l.invariant.0 at_test.loop-n-test.true _ at_pair.pair_at-pair.ensures bad (sym (asked c.before) ∙ c.if-is_bad_name.false)) ∙ l.invariant.1,
     )
 
-returns-2 : tie.Need-returns-2 invariant-loop decreases-loop
-returns-2 c = sym (some-none _ _ _ bad c.loop-test.false) ∙ c.before.loop.invariant.1
+returns-2 : tie.Need-returns invariant-loop-n decreases-loop-n
+returns-2 c = sym (some-none _ _ _ bad c.loop-n-test.false) ∙ c.before.loop-n.invariant.1
 
-pub has-bad-name-spec : {M : Type 1} → statement M
-has-bad-name-spec =
+pub has_bad_name_spec : {M : Type 1} → statement M
+has_bad_name_spec =
     tie.close
     (tie.spec
-    invariant-loop
-    decreases-loop
+    invariant-loop-n
+    decreases-loop-n
     loop-holds
     pair-at-requires
-    (λ c. let s = c.pair-at.ensures.spans in omega arith)
-    (λ c. let s = c.pair-at.ensures.spans in omega arith)
-    (λ c. let s = c.pair-at.ensures.spans in omega arith)
+    (λ c. let s = c.pair_at-pair.ensures.spans in omega arith)
+    (λ c. let s = c.pair_at-pair.ensures.spans in omega arith)
+    (λ c. let s = c.pair_at-pair.ensures.spans in omega arith)
     (λ c κs. search rules)
     returns
     (λ c. omega arith)

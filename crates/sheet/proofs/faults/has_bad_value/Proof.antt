@@ -13,48 +13,48 @@ use Rattle.sheet.proofs.faults.has_bad_value.Tie as tie
 abbrev bad : Pair → Bool
 bad p = is_bad_text p.value
 
-abbrev invariant-loop : tie.invariant-loop
-invariant-loop buffer from count at₀ n₀ at n = HasPairs buffer at n × (some_pair bad (pairs_at buffer at n) ≡ some_pair bad (pairs_at buffer from count))
+abbrev invariant-loop-n : tie.invariant-loop-n
+invariant-loop-n buffer from count at₀ n₀ at n = HasPairs buffer at n × (some_pair bad (pairs_at buffer at n) ≡ some_pair bad (pairs_at buffer from count))
 
-abbrev decreases-loop : tie.decreases-loop
-decreases-loop buffer from count at₀ n₀ at n = n
+abbrev decreases-loop-n : tie.decreases-loop-n
+decreases-loop-n buffer from count at₀ n₀ at n = n
 
-loop-holds : tie.Need-loop-init invariant-loop decreases-loop
+loop-holds : tie.Need-loop-n-init invariant-loop-n decreases-loop-n
 loop-holds c = (c.before.requires, refl)
 
-pair-at-requires : tie.Need-pair-at-requires invariant-loop decreases-loop
-pair-at-requires c κs = pairs_first _ _ _ c.before.loop.invariant.0 c.loop-test.true
+pair-at-requires : tie.Need-pair_at-pair-requires invariant-loop-n decreases-loop-n
+pair-at-requires c κs = pairs_first _ _ _ c.before.loop-n.invariant.0 c.loop-n-test.true
 
-is-bad-text-requires : tie.Need-is-bad-text-requires invariant-loop decreases-loop
-is-bad-text-requires c κs = let s = c.pair-at.ensures.spans in omega arith
+is-bad-text-requires : tie.Need-is_bad_text-requires invariant-loop-n decreases-loop-n
+is-bad-text-requires c κs = let s = c.pair_at-pair.ensures.spans in omega arith
 
-returns : tie.Need-returns invariant-loop decreases-loop
+returns : tie.Need-returns-then-is_bad_text invariant-loop-n decreases-loop-n
 returns c =
     let at_pair = c.before.before in
     let at_test = at_pair.before in
-    let l = at_test.before.loop in
-    sym (some-here _ _ _ l.invariant.0 at_test.loop-test.true _ at_pair.pair-at.ensures bad (sym c.before.is-bad-text.ensures ∙ c.if1.true))
+    let l = at_test.before.loop-n in
+    sym (some-here _ _ _ l.invariant.0 at_test.loop-n-test.true _ at_pair.pair_at-pair.ensures bad (sym c.before.is_bad_text.ensures ∙ c.if-is_bad_text.true))
     ∙ l.invariant.1
 
-loop-again : tie.Need-loop-preserved invariant-loop decreases-loop
+loop-again : tie.Need-loop-n-preserved invariant-loop-n decreases-loop-n
 loop-again c =
     let at_pair = c.before.before in
     let at_test = at_pair.before in
-    let l = at_test.before.loop in (
-      pairs-left _ _ _ l.invariant.0 at_test.loop-test.true _ at_pair.pair-at.ensures,
-      sym (some-skip _ _ _ l.invariant.0 at_test.loop-test.true _ at_pair.pair-at.ensures bad (sym c.before.is-bad-text.ensures ∙ c.if1.false))
+    let l = at_test.before.loop-n in (
+      pairs-left _ _ _ l.invariant.0 at_test.loop-n-test.true _ at_pair.pair_at-pair.ensures,
+      sym (some-skip _ _ _ l.invariant.0 at_test.loop-n-test.true _ at_pair.pair_at-pair.ensures bad (sym c.before.is_bad_text.ensures ∙ c.if-is_bad_text.false))
           ∙ l.invariant.1,
     )
 
-returns-2 : tie.Need-returns-2 invariant-loop decreases-loop
-returns-2 c = sym (some-none _ _ _ bad c.loop-test.false) ∙ c.before.loop.invariant.1
+returns-2 : tie.Need-returns invariant-loop-n decreases-loop-n
+returns-2 c = sym (some-none _ _ _ bad c.loop-n-test.false) ∙ c.before.loop-n.invariant.1
 
-pub has-bad-value-spec : {M : Type 1} → statement M
-has-bad-value-spec =
+pub has_bad_value_spec : {M : Type 1} → statement M
+has_bad_value_spec =
     tie.close
     (tie.spec
-    invariant-loop
-    decreases-loop
+    invariant-loop-n
+    decreases-loop-n
     loop-holds
     pair-at-requires
     is-bad-text-requires

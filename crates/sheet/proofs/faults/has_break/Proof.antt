@@ -12,41 +12,41 @@ use Rattle.sheet.proofs.Laws.Faults.{break-newline, break-return, break-other, h
 use Rattle.sheet.proofs.faults.has_break.Statement.{statement}
 use Rattle.sheet.proofs.faults.has_break.Tie as tie
 
-abbrev invariant-loop : tie.invariant-loop
-invariant-loop buffer from to i₀ i = (i ≤ to) × (to ≤ length buffer) × (has_break (part buffer i to) ≡ has_break (part buffer from to))
+abbrev invariant-loop-i : tie.invariant-loop-i
+invariant-loop-i buffer from to i₀ i = (i ≤ to) × (to ≤ length buffer) × (has_break (part buffer i to) ≡ has_break (part buffer from to))
 
-abbrev decreases-loop : tie.decreases-loop
-decreases-loop buffer from to i₀ i = to - i
+abbrev decreases-loop-i : tie.decreases-loop-i
+decreases-loop-i buffer from to i₀ i = to - i
 
-loop-holds : tie.Need-loop-init invariant-loop decreases-loop
+loop-holds : tie.Need-loop-i-init invariant-loop-i decreases-loop-i
 loop-holds c = (omega arith, omega arith, refl)
 
-returns : tie.Need-returns invariant-loop decreases-loop
+returns : tie.Need-returns-then-b-eq10 invariant-loop-i decreases-loop-i
 returns c =
     let at_test = c.before.before in
-    let l = at_test.before.loop in
-    sym (has_break-here _ _ _ at_test.loop-test.true l.invariant.1
-    (⊎_elim (λ w. break-newline _ w.taken) (λ w. break-return _ (eqb-true _ 13 w.1.taken)) c.if1.branch))
+    let l = at_test.before.loop-i in
+    sym (has_break-here _ _ _ at_test.loop-i-test.true l.invariant.1
+    (⊎_elim (λ w. break-newline _ w.taken) (λ w. break-return _ (eqb-true _ 13 w.1.taken)) c.if-b-eq10.branch))
     ∙ l.invariant.2
 
-loop-again : tie.Need-loop-preserved invariant-loop decreases-loop
+loop-again : tie.Need-loop-i-preserved invariant-loop-i decreases-loop-i
 loop-again c =
     let at_test = c.before.before.before in
-    let l = at_test.before.loop in (
+    let l = at_test.before.loop-i in (
       omega arith,
       omega arith,
-      sym (has_break-skip _ _ _ at_test.loop-test.true l.invariant.1 (break-other _ c.before.if1.false (eqb-false _ 13 c.if2.false))) ∙ l.invariant.2,
+      sym (has_break-skip _ _ _ at_test.loop-i-test.true l.invariant.1 (break-other _ c.before.if-b-eq10.false (eqb-false _ 13 c.if-b-eq13.false))) ∙ l.invariant.2,
     )
 
-returns-2 : tie.Need-returns-2 invariant-loop decreases-loop
-returns-2 c = sym (has_break-none _ _ _ c.loop-test.false) ∙ c.before.loop.invariant.2
+returns-2 : tie.Need-returns invariant-loop-i decreases-loop-i
+returns-2 c = sym (has_break-none _ _ _ c.loop-i-test.false) ∙ c.before.loop-i.invariant.2
 
-pub has-break-spec : {M : Type 1} → statement M
-has-break-spec =
+pub has_break_spec : {M : Type 1} → statement M
+has_break_spec =
     tie.close
     (tie.spec
-    invariant-loop
-    decreases-loop
+    invariant-loop-i
+    decreases-loop-i
     loop-holds
     (λ c. omega arith)
     returns

@@ -12,33 +12,33 @@ use Rattle.sheet.proofs.Laws.Faults.{bad_text-none, bad_text-break, bad_text-end
 use Rattle.sheet.proofs.faults.is_bad_text.Statement.{statement}
 use Rattle.sheet.proofs.faults.is_bad_text.Tie as tie
 
-returns : tie.Need-returns
-returns c = sym (bad_text-none _ _ _ c.if1.true)
+returns : tie.Need-returns-then-to-from
+returns c = sym (bad_text-none _ _ _ c.if-to-from.true)
 
-returns-2 : tie.Need-returns-2
-returns-2 c = sym (bad_text-break _ _ _ (sym c.before.has-break.ensures ∙ c.if2.true))
+returns-2 : tie.Need-returns-then-has_break
+returns-2 c = sym (bad_text-break _ _ _ (sym c.before.has_break.ensures ∙ c.if-has_break.true))
 
 -- the ends settle it
-ends : (c : tie.Else2) →
+ends : (c : tie.Else-has_break) →
     let a = c.before.before.before.before.args in
     is_bad_text (part a.buffer.now a.from a.to) ≡ (is_blank (get_or a.buffer.now a.from 0) || is_blank (get_or a.buffer.now (a.to - 1) 0))
 ends c =
     let at_some = c.before.before in
-    bad_text-ends _ _ _ at_some.if1.false at_some.before.before.requires.1 (sym c.before.has-break.ensures ∙ c.if2.false)
+    bad_text-ends _ _ _ at_some.if-to-from.false at_some.before.before.requires.1 (sym c.before.has_break.ensures ∙ c.if-has_break.false)
 
-returns-3 : tie.Need-returns-3
+returns-3 : tie.Need-returns-then-is_of
 returns-3 c =
     let at_first = c.before in
-    rw (ends at_first.before.before, ← at_first.is-of.ensures, c.if3.true)
+    rw (ends at_first.before.before, ← at_first.is_of.ensures, c.if-is_of.true)
 
-returns-4 : tie.Need-returns-4
+returns-4 : tie.Need-returns-else-is_of
 returns-4 c =
     let at_test = c.before.before in
     let at_first = at_test.before in
-    rw (ends at_first.before.before, ← at_first.is-of.ensures, at_test.if3.false) c.is-of2.ensures
+    rw (ends at_first.before.before, ← at_first.is_of.ensures, at_test.if-is_of.false) c.is_of-else-is_of.ensures
 
-pub is-bad-text-spec : {M : Type 1} → statement M
-is-bad-text-spec =
+pub is_bad_text_spec : {M : Type 1} → statement M
+is_bad_text_spec =
     tie.close
     (tie.spec
     returns

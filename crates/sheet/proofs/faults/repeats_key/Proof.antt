@@ -11,64 +11,64 @@ use Rattle.sheet.proofs.Laws.Pairs.{pairs_first, pairs-left, repeats-none, repea
 use Rattle.sheet.proofs.faults.repeats_key.Statement.{statement}
 use Rattle.sheet.proofs.faults.repeats_key.Tie as tie
 
-abbrev invariant-loop : tie.invariant-loop
-invariant-loop buffer start count at₀ n₀ at n = HasPairs buffer at n × (repeats (pairs_at buffer at n) ≡ repeats (pairs_at buffer start count))
+abbrev invariant-loop-n : tie.invariant-loop-n
+invariant-loop-n buffer start count at₀ n₀ at n = HasPairs buffer at n × (repeats (pairs_at buffer at n) ≡ repeats (pairs_at buffer start count))
 
-abbrev decreases-loop : tie.decreases-loop
-decreases-loop buffer start count at₀ n₀ at n = n
+abbrev decreases-loop-n : tie.decreases-loop-n
+decreases-loop-n buffer start count at₀ n₀ at n = n
 
-loop-holds : tie.Need-loop-init invariant-loop decreases-loop
+loop-holds : tie.Need-loop-n-init invariant-loop-n decreases-loop-n
 loop-holds c = (c.before.requires, refl)
 
-pair-at-requires : tie.Need-pair-at-requires invariant-loop decreases-loop
-pair-at-requires c κs = pairs_first _ _ _ c.before.loop.invariant.0 c.loop-test.true
+pair-at-requires : tie.Need-pair_at-pair-requires invariant-loop-n decreases-loop-n
+pair-at-requires c κs = pairs_first _ _ _ c.before.loop-n.invariant.0 c.loop-n-test.true
 
-has-key-requires : tie.Need-has-key-requires invariant-loop decreases-loop
+has-key-requires : tie.Need-has_key-requires invariant-loop-n decreases-loop-n
 has-key-requires c κs =
     let at_pair = c.before in
     let at_test = at_pair.before in
-    pairs-left _ _ _ at_test.before.loop.invariant.0 at_test.loop-test.true _ at_pair.pair-at.ensures
+    pairs-left _ _ _ at_test.before.loop-n.invariant.0 at_test.loop-n-test.true _ at_pair.pair_at-pair.ensures
 
 -- what was asked of the keys left
-asked : (c : tie.After-has-key invariant-loop decreases-loop) →
+asked : (c : tie.After-has_key invariant-loop-n decreases-loop-n) →
     let at_pair = c.before.before in
-    let l = at_pair.before.before.loop in
+    let l = at_pair.before.before.loop-n in
     let x = at_pair.before.before.before.before.args.buffer.now in
-    let r = at_pair.pair-at.result in
+    let r = at_pair.pair_at-pair.result in
     c.has_key_lem.result ≡ has_key (pair_of x r).key (pairs_at x r.end (l.n - 1))
-asked c = rw (part_slice _ _ _ c.before.before.pair-at.ensures.spans.key) at c.has_key_lem.ensures
+asked c = rw (part_slice _ _ _ c.before.before.pair_at-pair.ensures.spans.key) at c.has_key_lem.ensures
 
-returns : tie.Need-returns invariant-loop decreases-loop
+returns : tie.Need-returns-then-has_key invariant-loop-n decreases-loop-n
 returns c =
     let at_pair = c.before.before.before in
     let at_test = at_pair.before in
-    let l = at_test.before.loop in
-    sym (repeats-here _ _ _ l.invariant.0 at_test.loop-test.true _ at_pair.pair-at.ensures (sym (asked c.before) ∙ c.if1.true)) ∙ l.invariant.1
+    let l = at_test.before.loop-n in
+    sym (repeats-here _ _ _ l.invariant.0 at_test.loop-n-test.true _ at_pair.pair_at-pair.ensures (sym (asked c.before) ∙ c.if-has_key.true)) ∙ l.invariant.1
 
-loop-again : tie.Need-loop-preserved invariant-loop decreases-loop
+loop-again : tie.Need-loop-n-preserved invariant-loop-n decreases-loop-n
 loop-again c =
     let at_pair = c.before.before.before in
     let at_test = at_pair.before in
-    let l = at_test.before.loop in (
-      pairs-left _ _ _ l.invariant.0 at_test.loop-test.true _ at_pair.pair-at.ensures,
-      sym (repeats-skip _ _ _ l.invariant.0 at_test.loop-test.true _ at_pair.pair-at.ensures (sym (asked c.before) ∙ c.if1.false)) ∙ l.invariant.1,
+    let l = at_test.before.loop-n in (
+      pairs-left _ _ _ l.invariant.0 at_test.loop-n-test.true _ at_pair.pair_at-pair.ensures,
+      sym (repeats-skip _ _ _ l.invariant.0 at_test.loop-n-test.true _ at_pair.pair_at-pair.ensures (sym (asked c.before) ∙ c.if-has_key.false)) ∙ l.invariant.1,
     )
 
-returns-2 : tie.Need-returns-2 invariant-loop decreases-loop
-returns-2 c = sym (repeats-none _ _ _ c.loop-test.false) ∙ c.before.loop.invariant.1
+returns-2 : tie.Need-returns invariant-loop-n decreases-loop-n
+returns-2 c = sym (repeats-none _ _ _ c.loop-n-test.false) ∙ c.before.loop-n.invariant.1
 
-pub repeats-key-spec : {M : Type 1} → statement M
-repeats-key-spec =
+pub repeats_key_spec : {M : Type 1} → statement M
+repeats_key_spec =
     tie.close
     (tie.spec
-    invariant-loop
-    decreases-loop
+    invariant-loop-n
+    decreases-loop-n
     loop-holds
     pair-at-requires
     (λ c. omega arith)
-    (λ c. let s = c.pair-at.ensures.spans in omega arith)
-    (λ c. let s = c.pair-at.ensures.spans in omega arith)
-    (λ c. let s = c.pair-at.ensures.spans in omega arith)
+    (λ c. let s = c.pair_at-pair.ensures.spans in omega arith)
+    (λ c. let s = c.pair_at-pair.ensures.spans in omega arith)
+    (λ c. let s = c.pair_at-pair.ensures.spans in omega arith)
     has-key-requires
     returns
     (λ c. omega arith)

@@ -8,47 +8,47 @@ use Rattle.sheet.proofs.Laws.Judged.{judged-none, judged-title, judged-value, ju
 use Rattle.sheet.proofs.judge.judge.Statement.{statement}
 use Rattle.sheet.proofs.judge.judge.Tie as tie
 
-returns : tie.Need-returns
-returns c = judged-none _ (rw c.enum_told.given.1 at c.before.before.find-order.ensures)
+returns : tie.Need-returns-in_default
+returns c = judged-none _ (rw c.enum_told-1.given.1 at c.before.before.find_order.ensures)
 
 -- the order
-order : (c : tie.After-layout) → OrderIn c.before.before.before.before.args.buffer.now (Order c.layout.given.0.0)
-order c = rw c.layout.given.1 at c.before.before.find-order.ensures
+order : (c : tie.In-Order-2) → OrderIn c.before.before.before.before.args.buffer.now (Order c.layout-1.given.0.0)
+order c = rw c.layout-1.given.1 at c.before.before.find_order.ensures
 
-returns-2 : tie.Need-returns-2
+returns-2 : tie.Need-returns-then-is_bad_text
 returns-2 c =
     let o = order c.before.before.before in
-    judged-title _ _ o.1 (sym c.before.is-bad-text.ensures ∙ c.if1.true)
+    judged-title _ _ o.1 (sym c.before.is_bad_text.ensures ∙ c.if-is_bad_text.true)
 
-returns-3 : tie.Need-returns-3
+returns-3 : tie.Need-returns-then-has_bad_value
 returns-3 c =
     let at-title = c.before.before in
     let o = order at-title.before.before.before in
-    judged-value _ _ o.1 (sym at-title.before.is-bad-text.ensures ∙ at-title.if1.false) (sym c.before.has-bad-value.ensures ∙ c.if2.true)
+    judged-value _ _ o.1 (sym at-title.before.is_bad_text.ensures ∙ at-title.if-is_bad_text.false) (sym c.before.has_bad_value.ensures ∙ c.if-has_bad_value.true)
 
-returns-4 : tie.Need-returns-4
+returns-4 : tie.Need-returns-then-has_bad_name
 returns-4 c =
     let at_value = c.before.before in
     let at-title = at_value.before.before in
     let o = order at-title.before.before.before in
     judged-name _ _ o.1
-    (sym at-title.before.is-bad-text.ensures ∙ at-title.if1.false)
-    (sym at_value.before.has-bad-value.ensures ∙ at_value.if2.false)
-    (sym c.before.has-bad-name.ensures ∙ c.if3.true)
+    (sym at-title.before.is_bad_text.ensures ∙ at-title.if-is_bad_text.false)
+    (sym at_value.before.has_bad_value.ensures ∙ at_value.if-has_bad_value.false)
+    (sym c.before.has_bad_name.ensures ∙ c.if-has_bad_name.true)
 
-returns-5 : tie.Need-returns-5
+returns-5 : tie.Need-returns-then-repeats_key
 returns-5 c =
     let at_name = c.before.before in
     let at_value = at_name.before.before in
     let at-title = at_value.before.before in
     let o = order at-title.before.before.before in
     judged-repeated _ _ o.1
-    (sym at-title.before.is-bad-text.ensures ∙ at-title.if1.false)
-    (sym at_value.before.has-bad-value.ensures ∙ at_value.if2.false)
-    (sym at_name.before.has-bad-name.ensures ∙ at_name.if3.false)
-    (sym c.before.repeats-key.ensures ∙ c.if4.true)
+    (sym at-title.before.is_bad_text.ensures ∙ at-title.if-is_bad_text.false)
+    (sym at_value.before.has_bad_value.ensures ∙ at_value.if-has_bad_value.false)
+    (sym at_name.before.has_bad_name.ensures ∙ at_name.if-has_bad_name.false)
+    (sym c.before.repeats_key.ensures ∙ c.if-repeats_key.true)
 
-returns-6 : tie.Need-returns-6
+returns-6 : tie.Need-returns
 returns-6 c =
     let at_name = c.before.before in
     let at_value = at_name.before.before in
@@ -56,14 +56,14 @@ returns-6 c =
     let o = order at-title.before.before.before in (
       o.0,
       judged-accepted _ _ o.1
-          (sym at-title.before.is-bad-text.ensures ∙ at-title.if1.false)
-          (sym at_value.before.has-bad-value.ensures ∙ at_value.if2.false)
-          (sym at_name.before.has-bad-name.ensures ∙ at_name.if3.false)
-          (sym c.before.repeats-key.ensures ∙ c.if4.false),
+          (sym at-title.before.is_bad_text.ensures ∙ at-title.if-is_bad_text.false)
+          (sym at_value.before.has_bad_value.ensures ∙ at_value.if-has_bad_value.false)
+          (sym at_name.before.has_bad_name.ensures ∙ at_name.if-has_bad_name.false)
+          (sym c.before.repeats_key.ensures ∙ c.if-repeats_key.false),
     )
 
-pub judge-spec : {M : Type 1} → statement M
-judge-spec =
+pub judge_spec : {M : Type 1} → statement M
+judge_spec =
     tie.close
     (tie.spec
     (λ c κs. search rules)

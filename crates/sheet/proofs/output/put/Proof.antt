@@ -10,35 +10,35 @@ use Rattle.sheet.proofs.Laws.Output.{laid_none, laid-turn}
 use Rattle.sheet.proofs.output.put.Statement.{statement}
 use Rattle.sheet.proofs.output.put.Tie as tie
 
-abbrev invariant-loop : tie.invariant-loop
-invariant-loop out₀ at bytes i₀ out i = (i ≤ length bytes) × (length out ≡ length out₀) × (out ≡ laid out₀ at (take i bytes))
+abbrev invariant-loop-i : tie.invariant-loop-i
+invariant-loop-i out₀ at bytes i₀ out i = (i ≤ length bytes) × (length out ≡ length out₀) × (out ≡ laid out₀ at (take i bytes))
 
-abbrev decreases-loop : tie.decreases-loop
-decreases-loop out₀ at bytes i₀ out i = length bytes - i
+abbrev decreases-loop-i : tie.decreases-loop-i
+decreases-loop-i out₀ at bytes i₀ out i = length bytes - i
 
-loop-holds : tie.Need-loop-init invariant-loop decreases-loop
+loop-holds : tie.Need-loop-i-init invariant-loop-i decreases-loop-i
 loop-holds c = (omega arith, omega arith, laid_none c.args.out.now c.args.at c.args.bytes.now)
 
-loop-again : tie.Need-loop-preserved invariant-loop decreases-loop
+loop-again : tie.Need-loop-i-preserved invariant-loop-i decreases-loop-i
 loop-again c =
     let at-loop = c.before.before in
-    let l = at-loop.loop in (
+    let l = at-loop.loop-i in (
       omega arith,
       simp length-set l.invariant.1,
-      rw l.invariant.2 (laid-turn _ _ _ l.i c.before.loop-test.true at-loop.before.requires),
+      rw l.invariant.2 (laid-turn _ _ _ l.i c.before.loop-i-test.true at-loop.before.requires),
     )
 
-returns : tie.Need-returns invariant-loop decreases-loop
+returns : tie.Need-returns invariant-loop-i decreases-loop-i
 returns c =
     let at-loop = c.before in
-    record { output = at-loop.loop.invariant.2 ∙ ap (laid _ _) (take_all _ _ c.loop-test.false); next = omega arith }
+    record { output = at-loop.loop-i.invariant.2 ∙ ap (laid _ _) (take_all _ _ c.loop-i-test.false); next = omega arith }
 
 pub put_spec : {M : Type 1} → statement M
 put_spec =
     tie.close
     (tie.spec
-    invariant-loop
-    decreases-loop
+    invariant-loop-i
+    decreases-loop-i
     loop-holds
     (λ c. omega arith)
     (λ c. omega arith)
@@ -47,5 +47,5 @@ put_spec =
     (λ c. omega arith)
     loop-again
     (λ c. omega arith)
-    (λ c. c.before.loop.invariant.1)
+    (λ c. c.before.loop-i.invariant.1)
     returns)

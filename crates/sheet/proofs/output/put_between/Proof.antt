@@ -11,30 +11,30 @@ use Rattle.sheet.proofs.output.put_between.Tie as tie
 -- there is room for each
 room : (c : tie.Start) →
     let a = c.args in
-    a.at + length a.first.now + length a.bytes.now + length a.last.now ≤ length a.out.now
+    a.at + length a.first.now + length a.bytes.now + length a.last.now ≤ length a.out-1.now
 room c =
     let a = c.args in
     omega (arith, length-append a.first.now (a.bytes.now ++ a.last.now), length-append a.bytes.now a.last.now, c.requires)
 
-put-requires-2 : tie.Need-put-requires-2
+put-requires-2 : tie.Need-put-to-requires-2
 put-requires-2 c κs =
     let at-put = c.before.before.before in
     let start = at-put.before.before.before.before.before.before in
-    omega (arith, room start, at-put.put.auto.0, at-put.put.ensures.next)
+    omega (arith, room start, at-put.put-to.auto.0, at-put.put-to.ensures.next)
 
-put-requires-3 : tie.Need-put-requires-3
+put-requires-3 : tie.Need-put-requires
 put-requires-3 c κs =
     let at-put2 = c.before.before.before in
     let at-put = at-put2.before.before.before.before in
     let start = at-put.before.before.before.before.before.before in
-    omega (arith, room start, at-put.put.auto.0, at-put.put.ensures.next, at-put2.put2.auto.0, at-put2.put2.ensures.next)
+    omega (arith, room start, at-put.put-to.auto.0, at-put.put-to.ensures.next, at-put2.put-to-2.auto.0, at-put2.put-to-2.ensures.next)
 
-same_length : tie.Need-same-length
+same_length : tie.Need-shape_of-out
 same_length c =
     let at-put3 = c.before.before in
     let at-put2 = at-put3.before.before.before.before in
     let at-put = at-put2.before.before.before.before in
-    at-put3.put3.auto.0 ∙ at-put2.put2.auto.0 ∙ at-put.put.auto.0
+    at-put3.put.auto.0 ∙ at-put2.put-to-2.auto.0 ∙ at-put.put-to.auto.0
 
 returns : tie.Need-returns
 returns c =
@@ -42,12 +42,12 @@ returns c =
     let at-put2 = at-put3.before.before.before.before in
     let at-put = at-put2.before.before.before.before in
     let start = at-put.before.before.before.before.before.before in
-    puts-append at-put.put.ensures
-    (puts-append at-put2.put2.ensures at-put3.put3.ensures (omega (arith, room start, at-put.put.auto.0, at-put.put.ensures.next)))
+    puts-append at-put.put-to.ensures
+    (puts-append at-put2.put-to-2.ensures at-put3.put.ensures (omega (arith, room start, at-put.put-to.auto.0, at-put.put-to.ensures.next)))
     (omega (arith, room start))
 
-pub put-between-spec : {M : Type 1} → statement M
-put-between-spec =
+pub put_between_spec : {M : Type 1} → statement M
+put_between_spec =
     tie.close
     (tie.spec
     (λ c κs. omega (arith, room c.before.before.before.before.before))

@@ -10,11 +10,11 @@ use Rattle.sheet.proofs.pairs.pair_at.Tie as tie
 add-from : tie.Need-overflow-add-from
 add-from c = let a = c.before.args in omega (arith, has_pair-key a.buffer.now a.at c.before.requires)
 
-low-first-requires : tie.Need-low-first-requires
+low-first-requires : tie.Need-low_first-requires
 low-first-requires c κs = let a = c.before.args in omega (arith, has_pair-key a.buffer.now a.at c.before.requires)
 
 -- the length's bytes of the value
-value_in : (c : tie.After-low-first) → let a = c.before.before.args in a.at + 1 + c.low_first.result + 2 ≤ length a.buffer.now
+value_in : (c : tie.After-low_first) → let a = c.before.before.args in a.at + 1 + c.low_first.result + 2 ≤ length a.buffer.now
 value_in c = let start = c.before.before in has_pair-value start.args.buffer.now start.args.at start.requires c.low_first.result c.low_first.ensures.0
 
 add-t7 : tie.Need-overflow-add-t7
@@ -23,14 +23,14 @@ add-t7 c =
     omega (
       arith,
       has_pair-end start.args.buffer.now start.args.at start.requires c.before.low_first.result c.before.low_first.ensures.0
-          c.low-first2.result c.low-first2.ensures.0,
+          c.low_first-2.result c.low_first-2.ensures.0,
     )
 
 returns : tie.Need-returns
 unfolding reach
 returns c =
     let key = c.before.low_first.ensures in
-    let value = c.low-first2.ensures in
+    let value = c.low_first-2.ensures in
     let has = c.before.before.before.requires in
     record {
       spans = record {
@@ -44,8 +44,8 @@ returns c =
       is = has_pair-is _ _ has _ key.0 _ value.0;
     }
 
-pub pair-at-spec : {M : Type 1} → statement M
-pair-at-spec =
+pub pair_at_spec : {M : Type 1} → statement M
+pair_at_spec =
     tie.close
     (tie.spec
     add-from

@@ -17,12 +17,12 @@ use Rattle.sheet.proofs.sheet.put_pair.Tie as tie
 -- there is room for each piece
 room : (c : tie.Start) →
     let p = pair_of c.args.buffer.now c.args.pair in
-    c.args.at + length (marked_key p.key) + length (spaced p.value) + 1 ≤ length c.args.out.now
+    c.args.at + length (marked_key p.key) + length (spaced p.value) + 1 ≤ length c.args.out-1.now
 room c =
     let p = pair_of c.args.buffer.now c.args.pair in
     omega (arith, marked_key-length p.key, pair_line-length p, c.requires.1)
 
-put-between-requires : tie.Need-put-between-requires
+put-between-requires : tie.Need-put_between-end-requires
 unfolding marked_key word
 put-between-requires c κs =
     let start = c.before.before.before.before.before.before in
@@ -30,17 +30,17 @@ put-between-requires c κs =
     rw (part_slice start.args.buffer.now r.from r.to start.requires.0.key) (omega (arith, room start))
 
 -- the key is laid
-key : (c : tie.After-put-between) →
+key : (c : tie.After-put_between-end) →
     let a = c.before.before.before.before.before.before.before.args in
-    Puts a.out.now a.at (marked_key (pair_of a.buffer.now a.pair).key) c.put-between.new.0 c.put-between.result
+    Puts a.out-1.now a.at (marked_key (pair_of a.buffer.now a.pair).key) c.put_between-end.new.0 c.put_between-end.result
 unfolding marked_key word
-key c = rw (part_slice _ _ _ c.before.before.before.before.before.before.before.requires.0.key) at c.put-between.ensures
+key c = rw (part_slice _ _ _ c.before.before.before.before.before.before.before.requires.0.key) at c.put_between-end.ensures
 
-put-value-requires : tie.Need-put-value-requires
+put-value-requires : tie.Need-put_value-end-requires
 put-value-requires c κs =
     let at_key = c.before.before.before in
     let start = at_key.before.before.before.before.before.before.before in
-    (start.requires.0.value, start.requires.0.inside, omega (arith, room start, at_key.put-between.auto.0, (key at_key).next))
+    (start.requires.0.value, start.requires.0.inside, omega (arith, room start, at_key.put_between-end.auto.0, (key at_key).next))
 
 put-requires : tie.Need-put-requires
 put-requires c κs =
@@ -50,18 +50,18 @@ put-requires c κs =
     omega (
       arith,
       room start,
-      at_key.put-between.auto.0,
+      at_key.put_between-end.auto.0,
       (key at_key).next,
-      at_value.put-value.auto.1.1.1.0,
-      at_value.put-value.ensures.next,
+      at_value.put_value-end.auto.1.1.1.0,
+      at_value.put_value-end.ensures.next,
     )
 
-same_length : tie.Need-same-length
+same_length : tie.Need-shape_of-out
 same_length c =
     let at-put = c.before.before in
     let at_value = at-put.before.before.before.before.before in
     let at_key = at_value.before.before.before.before in
-    at-put.put.auto.0 ∙ at_value.put-value.auto.1.1.1.0 ∙ at_key.put-between.auto.0
+    at-put.put.auto.0 ∙ at_value.put_value-end.auto.1.1.1.0 ∙ at_key.put_between-end.auto.0
 
 returns : tie.Need-returns
 unfolding pair_line word
@@ -71,11 +71,11 @@ returns c =
     let at_key = at_value.before.before.before.before in
     let start = at_key.before.before.before.before.before.before.before in
     puts-append (key at_key)
-    (puts-append at_value.put-value.ensures at-put.put.ensures (omega (arith, room start, at_key.put-between.auto.0, (key at_key).next)))
+    (puts-append at_value.put_value-end.ensures at-put.put.ensures (omega (arith, room start, at_key.put_between-end.auto.0, (key at_key).next)))
     (omega (arith, room start))
 
-pub put-pair-spec : {M : Type 1} → statement M
-put-pair-spec =
+pub put_pair_spec : {M : Type 1} → statement M
+put_pair_spec =
     tie.close
     (tie.spec
     (λ c. search rules)

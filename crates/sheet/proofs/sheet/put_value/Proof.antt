@@ -13,50 +13,50 @@ use Rattle.sheet.proofs.Laws.Sizes.{spaced-none, spaced-some}
 use Rattle.sheet.proofs.sheet.put_value.Statement.{statement}
 use Rattle.sheet.proofs.sheet.put_value.Tie as tie
 
-returns : tie.Need-returns
+returns : tie.Need-returns-then-end-value
 returns c =
     let a = c.before.before.before.args in
     let v = part_length a.buffer.now a.value a.end c.before.before.before.requires.1 in
     rw (spaced-none (part a.buffer.now a.value a.end) (omega arith)) (puts-nil _ _)
 
 -- the value is not empty, and there is room
-full : (c : tie.Else1) →
+full : (c : tie.Else-end-value) →
     let a = c.before.before.before.args in
     let v = part a.buffer.now a.value a.end in
-    (spaced v ≡ 32 ∷ v) × (a.at + 1 + length v ≤ length a.out.now)
+    (spaced v ≡ 32 ∷ v) × (a.at + 1 + length v ≤ length a.out-1.now)
 full c =
     let start = c.before.before.before in
     let a = start.args in
     let v = part a.buffer.now a.value a.end in
     let n = part_length a.buffer.now a.value a.end start.requires.1 in
     let s = spaced-some v (omega arith) in
-    let room : a.at + length (32 ∷ v) ≤ length a.out.now = rw s at start.requires.2 in
+    let room : a.at + length (32 ∷ v) ≤ length a.out-1.now = rw s at start.requires.2 in
     (s, omega arith)
 
-put-requires : tie.Need-put-requires
+put-requires : tie.Need-put-to-requires
 put-requires c κs = let f = (full c.before.before).1 in omega arith
 
-put-requires-2 : tie.Need-put-requires-2
+put-requires-2 : tie.Need-put-requires
 put-requires-2 c κs =
     let at-put = c.before.before.before.before in
     let at_test = at-put.before.before.before in
     let start = at_test.before.before.before in
     rw (part_slice start.args.buffer.now start.args.value start.args.end start.requires.0)
-    (omega (arith, (full at_test).1, at-put.put.auto.0, at-put.put.ensures.next))
+    (omega (arith, (full at_test).1, at-put.put-to.auto.0, at-put.put-to.ensures.next))
 
-same_length : tie.Need-same-length
-same_length c = c.before.before.put2.auto.0 ∙ c.before.before.before.before.before.before.before.put.auto.0
+same_length : tie.Need-shape_of-out
+same_length c = c.before.before.put.auto.0 ∙ c.before.before.before.before.before.before.before.put-to.auto.0
 
-returns-2 : tie.Need-returns-2
+returns-2 : tie.Need-returns
 returns-2 c =
     let at-put2 = c.before.before in
     let at-put = at-put2.before.before.before.before.before in
     let at_test = at-put.before.before.before in
     let f = full at_test in
-    rw f.0 (puts-append at-put.put.ensures (rw (part_slice _ _ _ at_test.before.before.before.requires.0) at at-put2.put2.ensures) (omega (arith, f.1)))
+    rw f.0 (puts-append at-put.put-to.ensures (rw (part_slice _ _ _ at_test.before.before.before.requires.0) at at-put2.put.ensures) (omega (arith, f.1)))
 
-pub put-value-spec : {M : Type 1} → statement M
-put-value-spec =
+pub put_value_spec : {M : Type 1} → statement M
+put_value_spec =
     tie.close
     (tie.spec
     returns

@@ -13,51 +13,51 @@ use Rattle.sheet.proofs.Laws.Sizes.{lines_none, lines_step}
 use Rattle.sheet.proofs.size.pairs_size.Statement.{statement}
 use Rattle.sheet.proofs.size.pairs_size.Tie as tie
 
-abbrev invariant-loop : tie.invariant-loop
-invariant-loop buffer from count at₀ n₀ size₀ at n size =
+abbrev invariant-loop-n : tie.invariant-loop-n
+invariant-loop-n buffer from count at₀ n₀ size₀ at n size =
     HasPairs buffer at n × (n ≤ count) × (count ≤ pair_limit) × (size ≤ longest * (count - n))
     × (size + length (join (pair_lines (pairs_at buffer at n))) ≡ length (join (pair_lines (pairs_at buffer from count))))
 
-abbrev decreases-loop : tie.decreases-loop
-decreases-loop buffer from count at₀ n₀ size₀ at n size = n
+abbrev decreases-loop-n : tie.decreases-loop-n
+decreases-loop-n buffer from count at₀ n₀ size₀ at n size = n
 
-loop-holds : tie.Need-loop-init invariant-loop decreases-loop
+loop-holds : tie.Need-loop-n-init invariant-loop-n decreases-loop-n
 loop-holds c = (c.before.requires.0, omega arith, c.before.requires.1, omega arith, zero-add _)
 
-pair-at-requires : tie.Need-pair-at-requires invariant-loop decreases-loop
-pair-at-requires c κs = pairs_first _ _ _ c.before.loop.invariant.0 c.loop-test.true
+pair-at-requires : tie.Need-pair_at-pair-requires invariant-loop-n decreases-loop-n
+pair-at-requires c κs = pairs_first _ _ _ c.before.loop-n.invariant.0 c.loop-n-test.true
 
-loop-again : tie.Need-loop-preserved invariant-loop decreases-loop
+loop-again : tie.Need-loop-n-preserved invariant-loop-n decreases-loop-n
 loop-again c =
     let at_pair = c.before in
     let at_test = at_pair.before in
-    let l = at_test.before.loop in
+    let l = at_test.before.loop-n in
     let x = at_test.before.before.before.args.buffer.now in
-    let r = at_pair.pair-at.result in
-    let step = lines_step x l.at l.n l.invariant.0 at_test.loop-test.true r at_pair.pair-at.ensures in
+    let r = at_pair.pair_at-pair.result in
+    let step = lines_step x l.at l.n l.invariant.0 at_test.loop-n-test.true r at_pair.pair_at-pair.ensures in
     let more = length-append (pair_line (pair_of x r)) (join (pair_lines (pairs_at x r.end (l.n - 1)))) in (
-      pairs-left _ _ _ l.invariant.0 at_test.loop-test.true _ at_pair.pair-at.ensures,
+      pairs-left _ _ _ l.invariant.0 at_test.loop-n-test.true _ at_pair.pair_at-pair.ensures,
       omega arith,
       omega arith,
       omega arith,
       omega (arith, ap length step, more),
     )
 
-returns : tie.Need-returns invariant-loop decreases-loop
+returns : tie.Need-returns invariant-loop-n decreases-loop-n
 returns c =
-    let l = c.before.loop in
+    let l = c.before.loop-n in
     let x = c.before.before.before.args.buffer.now in
-    (omega (arith, ap length (lines_none x l.at l.n c.loop-test.false)), omega arith)
+    (omega (arith, ap length (lines_none x l.at l.n c.loop-n-test.false)), omega arith)
 
-pub pairs-size-spec : {M : Type 1} → statement M
-pairs-size-spec =
+pub pairs_size_spec : {M : Type 1} → statement M
+pairs_size_spec =
     tie.close
     (tie.spec
-    invariant-loop
-    decreases-loop
+    invariant-loop-n
+    decreases-loop-n
     loop-holds
     pair-at-requires
-    (λ c κs. c.pair-at.ensures.spans)
+    (λ c κs. c.pair_at-pair.ensures.spans)
     (λ c. omega arith)
     (λ c. omega arith)
     (λ c. omega arith)

@@ -7,7 +7,7 @@ use Rattle.sheet.proofs.Laws.Sizes.{sheet-length}
 use Rattle.sheet.proofs.size.sheet_size.Statement.{statement}
 use Rattle.sheet.proofs.size.sheet_size.Tie as tie
 
-pairs-size-requires : tie.Need-pairs-size-requires
+pairs-size-requires : tie.Need-pairs_size-requires
 pairs-size-requires c κs = let l = c.before.requires in (l.pairs, l.few)
 
 returns : tie.Need-returns
@@ -15,12 +15,12 @@ returns c =
     let start = c.before.before in
     let x = start.args.buffer.now in
     let l = start.args.layout in (
-      omega (arith, sheet-length (order_at x l), part_length x text_width l.title (omega arith), c.pairs-size.ensures.0),
-      omega (arith, start.requires.short, start.requires.few, c.pairs-size.ensures.1),
+      omega (arith, sheet-length (order_at x l), part_length x text_width l.title (omega arith), c.pairs_size.ensures.0),
+      omega (arith, start.requires.short, start.requires.few, c.pairs_size.ensures.1),
     )
 
-pub sheet-size-spec : {M : Type 1} → statement M
-sheet-size-spec =
+pub sheet_size_spec : {M : Type 1} → statement M
+sheet_size_spec =
     tie.close
     (tie.spec
     (λ c. omega arith)

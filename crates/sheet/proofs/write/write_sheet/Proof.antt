@@ -10,31 +10,31 @@ use Rattle.sheet.proofs.Laws.Judged.{judged-number}
 use Rattle.sheet.proofs.write.write_sheet.Statement.{statement}
 use Rattle.sheet.proofs.write.write_sheet.Tie as tie
 
-returns : tie.Need-returns
+returns : tie.Need-returns-in-Refused
 returns c =
     let at-number = c.before.before in
     let x = at-number.before.before.before.before.before.args.order.now in
-    let n = at-number.number.given.0.0 in
-    let refused = rw at-number.number.given.1 at at-number.before.before.judge.ensures in
+    let n = at-number.number-1.given.0.0 in
+    let refused = rw at-number.number-1.given.1 at at-number.before.before.judge.ensures in
     let a = answers c.answered.ensures refl (write-refused _ _ n refused) in
     record { answers = a; written = λ h. absurd (omega (arith, judged-number x n refused, rw c.answered.ensures at h)) }
 
 -- the order is good
-good : (c : tie.After-layout) → JudgedAs c.before.before.before.before.before.args.order.now (Good c.layout.given.0.0)
-good c = rw c.layout.given.1 at c.before.before.judge.ensures
+good : (c : tie.In-Good-2) → JudgedAs c.before.before.before.before.before.args.order.now (Good c.layout-1.given.0.0)
+good c = rw c.layout-1.given.1 at c.before.before.judge.ensures
 
-returns-2 : tie.Need-returns-2
+returns-2 : tie.Need-returns-in-Good
 returns-2 c =
     let at-write = c.before.before in
-    let a = at-write.write-good.ensures in
+    let a = at-write.write_good.ensures in
     let j = (good at-write.before.before.before).1 in
     record {
       answers = rw (write-good _ _ _ j) a;
       written = λ h. let w = put_out-written _ _ a h in written-for _ _ _ j w.0 w.1;
     }
 
-pub write-sheet-spec : {M : Type 1} → statement M
-write-sheet-spec =
+pub write_sheet_spec : {M : Type 1} → statement M
+write_sheet_spec =
     tie.close
     (tie.spec
     (λ c κs. search rules)
@@ -43,5 +43,5 @@ write-sheet-spec =
     (λ c. search rules)
     (λ c κs. (good c.before.before).0)
     returns
-    (λ c. c.before.before.write-good.auto.1.1.0)
+    (λ c. c.before.before.write_good.auto.1.1.0)
     returns-2)

@@ -14,12 +14,12 @@ returns c =
     let start = c.before.before.before.before in
     let a = start.args in
     let x = part a.bytes.now a.from a.to in
-    ap (further a.state (a.to - a.from)) c.title-after.ensures
+    ap (further a.state (a.to - a.from)) c.title_after.ensures
     ∙ ap (λ (n : ℕ). further a.state n (fed a.state x).title) (sym (part_length a.bytes.now a.from a.to start.requires.to))
     ∙ sym (fed-further a.state x start.requires.bytes start.requires.past)
 
-pub go-on-spec : {M : Type 1} → statement M
-go-on-spec =
+pub go_on_spec : {M : Type 1} → statement M
+go_on_spec =
     tie.close
     (tie.spec
     (λ c. search rules)

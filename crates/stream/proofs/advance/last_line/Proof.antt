@@ -12,48 +12,48 @@ use Rattle.text.proofs.Laws.Parts.{part-nil, part-cons}
 use Rattle.stream.proofs.advance.last_line.Statement.{statement}
 use Rattle.stream.proofs.advance.last_line.Tie as tie
 
-abbrev invariant-loop : tie.invariant-loop
-invariant-loop bytes from to i₀ i = (from ≤ i) × (i ≤ to) × (all (is_not 10) (part bytes i to) ≡ true)
+abbrev invariant-loop-i : tie.invariant-loop-i
+invariant-loop-i bytes from to i₀ i = (from ≤ i) × (i ≤ to) × (all (is_not 10) (part bytes i to) ≡ true)
 
-abbrev decreases-loop : tie.decreases-loop
-decreases-loop bytes from to i₀ i = i
+abbrev decreases-loop-i : tie.decreases-loop-i
+decreases-loop-i bytes from to i₀ i = i
 
-loop-holds : tie.Need-loop-init invariant-loop decreases-loop
+loop-holds : tie.Need-loop-i-init invariant-loop-i decreases-loop-i
 unfolding all
 loop-holds c = let a = c.args in (c.requires.0, omega arith, rw (part-nil a.bytes.now a.to a.to (omega arith)))
 
-returns : tie.Need-returns invariant-loop decreases-loop
+returns : tie.Need-returns-then-bytes-i-eq10 invariant-loop-i decreases-loop-i
 returns c =
-    let l = c.before.before.before.loop in
-    record { from = l.invariant.0; to = l.invariant.1; plain = l.invariant.2; newline = λ h. c.if1.true }
+    let l = c.before.before.before.loop-i in
+    record { from = l.invariant.0; to = l.invariant.1; plain = l.invariant.2; newline = λ h. c.if-bytes-i-eq10.true }
 
-loop-again : tie.Need-loop-preserved invariant-loop decreases-loop
+loop-again : tie.Need-loop-i-preserved invariant-loop-i decreases-loop-i
 unfolding all
 loop-again c =
     let at_test = c.before.before in
-    let l = at_test.before.loop in
+    let l = at_test.before.loop-i in
     let start = at_test.before.before in
     let x = start.args.bytes.now in
     let e = start.args.to in
     let i = l.i in
-    let back : i - 1 + 1 ≡ i = omega (arith, at_test.loop-test.true) in
-    let e' = part-cons x (i - 1) e (omega (arith, at_test.loop-test.true, l.invariant.1)) start.requires.1 in
-    (omega (arith, at_test.loop-test.true), omega (arith, l.invariant.1), rw (e', is_not-yes 10 (get_or x (i - 1) 0) c.if1.false, back) l.invariant.2)
+    let back : i - 1 + 1 ≡ i = omega (arith, at_test.loop-i-test.true) in
+    let e' = part-cons x (i - 1) e (omega (arith, at_test.loop-i-test.true, l.invariant.1)) start.requires.1 in
+    (omega (arith, at_test.loop-i-test.true), omega (arith, l.invariant.1), rw (e', is_not-yes 10 (get_or x (i - 1) 0) c.if-bytes-i-eq10.false, back) l.invariant.2)
 
-returns-2 : tie.Need-returns-2 invariant-loop decreases-loop
+returns-2 : tie.Need-returns invariant-loop-i decreases-loop-i
 returns-2 c =
-    let l = c.before.loop in
-    record { from = l.invariant.0; to = l.invariant.1; plain = l.invariant.2; newline = λ h. absurd (omega (arith, h, c.loop-test.false)) }
+    let l = c.before.loop-i in
+    record { from = l.invariant.0; to = l.invariant.1; plain = l.invariant.2; newline = λ h. absurd (omega (arith, h, c.loop-i-test.false)) }
 
-pub last-line-spec : {M : Type 1} → statement M
-last-line-spec =
+pub last_line_spec : {M : Type 1} → statement M
+last_line_spec =
     tie.close
     (tie.spec
-    invariant-loop
-    decreases-loop
+    invariant-loop-i
+    decreases-loop-i
     loop-holds
     (λ c. omega arith)
-    (λ c. omega (arith, c.before.before.loop.invariant.1, c.before.before.before.requires.1))
+    (λ c. omega (arith, c.before.before.loop-i.invariant.1, c.before.before.before.requires.1))
     returns
     (λ c. omega arith)
     (λ c. omega arith)

@@ -4,5 +4,5 @@ use borrow.Author.Rules.{rules}
 use Rattle.stream.proofs.advance.next_line.Statement.{statement}
 use Rattle.stream.proofs.advance.next_line.Tie as tie
 
-pub next-line-spec : {M : Type 1} → statement M
-next-line-spec = tie.close (tie.spec (λ c. search rules) (λ c. simp towards_suc))
+pub next_line_spec : {M : Type 1} → statement M
+next_line_spec = tie.close (tie.spec (λ c. search rules) (λ c. simp towards_suc))

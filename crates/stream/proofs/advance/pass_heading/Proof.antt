@@ -5,42 +5,42 @@ use Rattle.stream.proofs.Laws.Advance.{more-of-line, line-total, line-inside, ad
 use Rattle.stream.proofs.advance.pass_heading.Statement.{statement}
 use Rattle.stream.proofs.advance.pass_heading.Tie as tie
 
-go-on-requires : tie.Need-go-on-requires
+go-on-requires : tie.Need-go_on-line-requires
 go-on-requires c κs =
     let pre = c.before.before.requires in
-    more-of-line _ _ _ pre.0 pre.1 pre.2 pre.3 _ c.find-byte.ensures
+    more-of-line _ _ _ pre.0 pre.1 pre.2 pre.3 _ c.find_byte-newline.ensures
 
-returns : tie.Need-returns
+returns : tie.Need-returns-then-bytes-newline
 returns c =
     let at-find = c.before.before in
     let pre = at-find.before.before.requires in
-    advance-piece _ _ _ pre.0 pre.1 pre.2 pre.3 _ at-find.find-byte.ensures c.before.go_on.ensures c.if1.true
+    advance-piece _ _ _ pre.0 pre.1 pre.2 pre.3 _ at-find.find_byte-newline.ensures c.before.go_on-line.ensures c.if-bytes-newline.true
 
-next-line-requires : tie.Need-next-line-requires
+next-line-requires : tie.Need-next_line-requires
 next-line-requires c κs =
     let at-find = c.before.before in
     let pre = at-find.before.before.requires in
-    let t = line-total _ _ _ pre.0 pre.1 pre.2 pre.3 _ at-find.find-byte.ensures c.before.go_on.ensures in
-    omega (arith, t, pre.0.total, pre.1, c.if1.false, at-find.find-byte.ensures)
+    let t = line-total _ _ _ pre.0 pre.1 pre.2 pre.3 _ at-find.find_byte-newline.ensures c.before.go_on-line.ensures in
+    omega (arith, t, pre.0.total, pre.1, c.if-bytes-newline.false, at-find.find_byte-newline.ensures)
 
-heading-of-requires : tie.Need-heading-of-requires
+heading-of-requires : tie.Need-heading_of-requires
 heading-of-requires c κs =
     let at-find = c.before.before.before in
     let pre = at-find.before.before.requires in
-    line-inside _ _ _ pre.0 pre.1 pre.2 pre.3 _ at-find.find-byte.ensures c.before.before.go_on.ensures
+    line-inside _ _ _ pre.0 pre.1 pre.2 pre.3 _ at-find.find_byte-newline.ensures c.before.before.go_on-line.ensures
 
-returns-2 : tie.Need-returns-2
+returns-2 : tie.Need-returns
 returns-2 c =
     let at_test = c.before.before in
     let at-find = at_test.before.before in
     let pre = at-find.before.before.requires in
-    advance-line _ _ _ pre.0 pre.1 pre.2 pre.3 _ at-find.find-byte.ensures at_test.before.go_on.ensures
-    at_test.if1.false
-    c.before.next-line.ensures
-    c.heading-of.ensures
+    advance-line _ _ _ pre.0 pre.1 pre.2 pre.3 _ at-find.find_byte-newline.ensures at_test.before.go_on-line.ensures
+    at_test.if-bytes-newline.false
+    c.before.next_line.ensures
+    c.heading_of.ensures
 
-pub pass-heading-spec : {M : Type 1} → statement M
-pass-heading-spec =
+pub pass_heading_spec : {M : Type 1} → statement M
+pass_heading_spec =
     tie.close
     (tie.spec
     (λ c κs. search rules)

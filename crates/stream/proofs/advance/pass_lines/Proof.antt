@@ -5,24 +5,24 @@ use Rattle.stream.proofs.Laws.PassLines.{advance-plain, advance-lines}
 use Rattle.stream.proofs.advance.pass_lines.Statement.{statement}
 use Rattle.stream.proofs.advance.pass_lines.Tie as tie
 
-returns : tie.Need-returns
+returns : tie.Need-returns-then-start-at
 returns c =
     let at_last = c.before.before.before in
     let pre = at_last.before.before.before.requires in
-    advance-plain _ _ _ pre.0 pre.1 pre.2 _ at_last.before.next-star-line.ensures _ at_last.last_Line.ensures
-    c.before.before.if1.true
+    advance-plain _ _ _ pre.0 pre.1 pre.2 _ at_last.before.next_star_line-end.ensures _ at_last.last_Line.ensures
+    c.before.before.if-start-at.true
     refl
 
-returns-2 : tie.Need-returns-2
+returns-2 : tie.Need-returns
 returns-2 c =
     let at_last = c.before.before in
     let pre = at_last.before.before.before.requires in
-    advance-lines _ _ _ pre.0 pre.1 pre.2 _ at_last.before.next-star-line.ensures _ at_last.last_Line.ensures
-    c.before.if1.false
+    advance-lines _ _ _ pre.0 pre.1 pre.2 _ at_last.before.next_star_line-end.ensures _ at_last.last_Line.ensures
+    c.before.if-start-at.false
     refl
 
-pub pass-lines-spec : {M : Type 1} → statement M
-pass-lines-spec =
+pub pass_lines_spec : {M : Type 1} → statement M
+pass_lines_spec =
     tie.close
     (tie.spec
     (λ c. search rules)

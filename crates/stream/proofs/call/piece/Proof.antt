@@ -17,68 +17,68 @@ use Rattle.stream.proofs.Promises.{settled}
 use Rattle.stream.proofs.call.piece.Statement.{statement}
 use Rattle.stream.proofs.call.piece.Tie as tie
 
-returns : tie.Need-returns
+returns : tie.Need-returns-then-not-is_open
 returns c =
-    let o = sym c.before.before.is_open.ensures ∙ not-true _ c.before.if1.true in
+    let o = sym c.before.before.is_open.ensures ∙ not-true _ c.before.if-not-is_open.true in
     settled _ _ _ _ _ (answers c.answered.ensures (piece-closed _ _ _ o))
 
-opened : (c : tie.Else1) → is_open c.before.before.before.before.args.state ≡ true
-opened c = sym c.before.is_open.ensures ∙ not-false _ c.if1.false
+opened : (c : tie.Else-not-is_open) → is_open c.before.before.before.before.args.state ≡ true
+opened c = sym c.before.is_open.ensures ∙ not-false _ c.if-not-is_open.false
 
 sub-if2 : tie.Need-overflow-sub-if2
 sub-if2 c = (tests _ (opened c.before)).total
 
-returns-2 : tie.Need-returns-2
+returns-2 : tie.Need-returns-then-state-bytes
 returns-2 c =
     let at-limit = c.before in
     let o = opened at-limit.before.before in
-    settled _ _ _ _ _ (answers c.answered2.ensures (piece-long _ _ _ o (omega (arith, at-limit.if2.true, (tests _ o).total))))
+    settled _ _ _ _ _ (answers c.answered-then-state-bytes.ensures (piece-long _ _ _ o (omega (arith, at-limit.if-state-bytes.true, (tests _ o).total))))
 
 -- the piece has room in the book
-fits : (c : tie.Else2) → let a = c.before.before.before.before.before.before.args in a.state.total + length a.bytes.now ≤ text_limit
-fits c = omega (arith, c.if2.false, (tests _ (opened c.before.before)).total)
+fits : (c : tie.Else-state-bytes) → let a = c.before.before.before.before.before.before.args in a.state.total + length a.bytes.now ≤ text_limit
+fits c = omega (arith, c.if-state-bytes.false, (tests _ (opened c.before.before)).total)
 
-within : (c : tie.Else2) → let a = c.before.before.before.before.before.before.args in Within a.state a.bytes.now 0
+within : (c : tie.Else-state-bytes) → let a = c.before.before.before.before.before.before.args in Within a.state a.bytes.now 0
 within c =
     let o = opened c.before.before in
     record { stars = open-stars _ o; line = (tests _ o).line; total = omega (arith, fits c) }
 
-count-finished-requires : tie.Need-count-finished-requires
+count-finished-requires : tie.Need-count_finished-count-requires
 count-finished-requires c κs = within c
 
 -- it is judged by what it finishes
-given : (c : tie.Else2) → let a = c.before.before.before.before.before.before.args in
-    piece a.state a.bytes.now a.list.now ≡ handed_out a.state a.list.now (finished a.state a.bytes.now) (fed a.state a.bytes.now)
+given : (c : tie.Else-state-bytes) → let a = c.before.before.before.before.before.before.args in
+    piece a.state a.bytes.now a.list-1.now ≡ handed_out a.state a.list-1.now (finished a.state a.bytes.now) (fed a.state a.bytes.now)
 given c = piece-open _ _ _ (opened c.before.before) (fits c)
 
-returns-3 : tie.Need-returns-3
+returns-3 : tie.Need-returns-then-list-count
 returns-3 c =
     let at_room = c.before in
     let at-limit = at_room.before.before in
     settled _ _ _ _ _
-    (rw (given at-limit) (answers-short _ _ _ _ c.answered3.ensures at_room.before.count-finished.ensures at_room.if3.true))
+    (rw (given at-limit) (answers-short _ _ _ _ c.answered-then-list-count.ensures at_room.before.count_finished-count.ensures at_room.if-list-count.true))
 
 -- what it finishes has room in the list
-room-enough : (c : tie.Else3) → let a = c.before.before.before.before.before.before.before.before.args in
-    length (finished a.state a.bytes.now) ≤ room a.list.now
-room-enough c = omega (arith, c.if3.false, c.before.count-finished.ensures)
+room-enough : (c : tie.Else-list-count) → let a = c.before.before.before.before.before.before.before.before.args in
+    length (finished a.state a.bytes.now) ≤ room a.list-1.now
+room-enough c = omega (arith, c.if-list-count.false, c.before.count_finished-count.ensures)
 
-put-finished-requires : tie.Need-put-finished-requires
+put-finished-requires : tie.Need-put_finished-requires
 put-finished-requires c κs =
     let a = c.before.before.before.before.before.before.before.before.before.args in
-    (within c.before.before.before, numbers-room (finished a.state a.bytes.now) a.list.now (room-enough c.before))
+    (within c.before.before.before, numbers-room (finished a.state a.bytes.now) a.list-1.now (room-enough c.before))
 
-returns-4 : tie.Need-returns-4
+returns-4 : tie.Need-returns
 returns-4 c =
     let at-put = c.before.before.before in
     let at_room = at-put.before.before in
     let at-limit = at_room.before.before in
-    let put = at-put.put-finished.ensures in
-    let n = at_room.before.count-finished.ensures in
-    settled _ _ _ _ _ (rw (given at-limit) (answers-done _ _ _ _ c.answered4.ensures put.0 n at_room.if3.false put.1))
+    let put = at-put.put_finished.ensures in
+    let n = at_room.before.count_finished-count.ensures in
+    settled _ _ _ _ _ (rw (given at-limit) (answers-done _ _ _ _ c.answered-2.ensures put.0 n at_room.if-list-count.false put.1))
 
-pub piece-spec : {M : Type 1} → statement M
-piece-spec =
+pub piece_spec : {M : Type 1} → statement M
+piece_spec =
     tie.close
     (tie.spec
     (λ c κs. search rules)

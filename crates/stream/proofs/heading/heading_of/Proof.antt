@@ -6,13 +6,13 @@ use Rattle.stream.proofs.Laws.Steps.{last-yes, last-no}
 use Rattle.stream.proofs.heading.heading_of.Statement.{statement}
 use Rattle.stream.proofs.heading.heading_of.Tie as tie
 
-returns : tie.Need-returns
+returns : tie.Need-returns-then-in_heading
 unfolding headings_of
-returns c = sym (last-yes _ (sym c.before.before.in-heading.ensures ∙ c.before.if1.true))
+returns c = sym (last-yes _ (sym c.before.before.in_heading.ensures ∙ c.before.if-in_heading.true))
 
-returns-2 : tie.Need-returns-2
+returns-2 : tie.Need-returns
 unfolding headings_of
-returns-2 c = sym (last-no _ (sym c.before.in-heading.ensures ∙ c.if1.false))
+returns-2 c = sym (last-no _ (sym c.before.in_heading.ensures ∙ c.if-in_heading.false))
 
-pub heading-of-spec : {M : Type 1} → statement M
-heading-of-spec = tie.close (tie.spec (λ c κs. search rules) (λ c. search rules) returns returns-2)
+pub heading_of_spec : {M : Type 1} → statement M
+heading_of_spec = tie.close (tie.spec (λ c κs. search rules) (λ c. search rules) returns returns-2)

@@ -6,8 +6,8 @@ use borrow.Author.Rules.{rules}
 use Rattle.stream.proofs.list.put_heading.Statement.{statement}
 use Rattle.stream.proofs.list.put_heading.Tie as tie
 
-pub put-heading-spec : {M : Type 1} → statement M
-put-heading-spec =
+pub put_heading_spec : {M : Type 1} → statement M
+put_heading_spec =
     tie.close
     (tie.spec
     (λ c. search rules)

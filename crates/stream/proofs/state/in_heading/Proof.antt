@@ -6,12 +6,12 @@ use Rattle.stream.proofs.Laws.Steps.{heading-bare}
 use Rattle.stream.proofs.state.in_heading.Statement.{statement}
 use Rattle.stream.proofs.state.in_heading.Tie as tie
 
-returns : tie.Need-returns
+returns : tie.Need-returns-then-state-gt0
 unfolding in_heading
-returns c = rw (lt-ltb 0 _ c.before.if1.true)
+returns c = rw (lt-ltb 0 _ c.before.if-state-gt0.true)
 
-returns-2 : tie.Need-returns-2
-returns-2 c = le-ltb 0 _ c.if1.false ∙ sym (heading-bare _ c.if1.false)
+returns-2 : tie.Need-returns-else-state-gt0
+returns-2 c = le-ltb 0 _ c.if-state-gt0.false ∙ sym (heading-bare _ c.if-state-gt0.false)
 
-pub in-heading-spec : {M : Type 1} → statement M
-in-heading-spec = tie.close (tie.spec returns returns-2)
+pub in_heading_spec : {M : Type 1} → statement M
+in_heading_spec = tie.close (tie.spec returns returns-2)

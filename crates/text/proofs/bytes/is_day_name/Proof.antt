@@ -10,17 +10,17 @@ use Rattle.text.proofs.Laws.Bytes.{is_digit-yes, is_digit-below, is_digit-above,
 use Rattle.text.proofs.bytes.is_day_name.Statement.{statement}
 use Rattle.text.proofs.bytes.is_day_name.Tie as tie
 
-returns : tie.Need-returns
+returns : tie.Need-returns-in_default
 returns c =
     let b = c.before.before.before.args.b in
-    let d : is_digit b ≡ false = on c.before.if1.branch (λ w. is_digit-below b w.taken) (λ w. is_digit-above b w.1.left) in
-    c.is-nonblank.ensures ∙ sym (day_name-other b d c.before.before.match.rest.1)
+    let d : is_digit b ≡ false = on c.before.if-b-lt48.branch (λ w. is_digit-below b w.taken) (λ w. is_digit-above b w.1.left) in
+    c.is_nonblank.ensures ∙ sym (day_name-other b d c.before.before.in-48-to-57.rest.1)
 
-returns-2 : tie.Need-returns-2
-returns-2 c = sym (day_name-mark _ c.match.keys1)
+returns-2 : tie.Need-returns-in-48-to-57
+returns-2 c = sym (day_name-mark _ c.in-48-to-57.keys1)
 
-returns-3 : tie.Need-returns-3
-returns-3 c = sym (day_name-digit _ (is_digit-yes c.before.before.before.args.b c.before.if1.false (omega arith)))
+returns-3 : tie.Need-returns-in-48-to-57-2
+returns-3 c = sym (day_name-digit _ (is_digit-yes c.before.before.before.args.b c.before.if-b-lt48.false (omega arith)))
 
-pub is-day-name-spec : {M : Type 1} → statement M
-is-day-name-spec = tie.close (tie.spec (λ c κs. search rules) returns returns-2 returns-3)
+pub is_day_name_spec : {M : Type 1} → statement M
+is_day_name_spec = tie.close (tie.spec (λ c κs. search rules) returns returns-2 returns-3)

@@ -6,11 +6,11 @@ use Rattle.text.proofs.Laws.LineStarts.{line_starts-first, line_starts-test}
 use Rattle.text.proofs.line.starts_line.Statement.{statement}
 use Rattle.text.proofs.line.starts_line.Tie as tie
 
-returns : tie.Need-returns
-returns c = sym (line_starts-first _ _ c.if1.true)
+returns : tie.Need-returns-then-at-eq0
+returns c = sym (line_starts-first _ _ c.if-at-eq0.true)
 
-returns-2 : tie.Need-returns-2
-returns-2 c = sym (line_starts-test _ _ c.before.if1.false)
+returns-2 : tie.Need-returns
+returns-2 c = sym (line_starts-test _ _ c.before.if-at-eq0.false)
 
-pub starts-line-spec : {M : Type 1} → statement M
-starts-line-spec = tie.close (tie.spec returns (λ c. search rules) (λ c. search rules) returns-2)
+pub starts_line_spec : {M : Type 1} → statement M
+starts_line_spec = tie.close (tie.spec returns (λ c. search rules) (λ c. search rules) returns-2)

@@ -9,34 +9,34 @@ use Rattle.text.proofs.Laws.Runs.{equal-lengths, equal-end, equal-differ, equal-
 use Rattle.text.proofs.word.is_equal.Statement.{statement}
 use Rattle.text.proofs.word.is_equal.Tie as tie
 
-abbrev invariant-loop : tie.invariant-loop
-invariant-loop first second i₀ i = (length first ≡ length second) × (equal (drop i first) (drop i second) ≡ equal first second)
+abbrev invariant-loop-i : tie.invariant-loop-i
+invariant-loop-i first second i₀ i = (length first ≡ length second) × (equal (drop i first) (drop i second) ≡ equal first second)
 
-abbrev decreases-loop : tie.decreases-loop
-decreases-loop first second i₀ i = length first - i
+abbrev decreases-loop-i : tie.decreases-loop-i
+decreases-loop-i first second i₀ i = length first - i
 
-returns : tie.Need-returns invariant-loop decreases-loop
-returns c = sym (equal-lengths _ _ c.if1.true)
+returns : tie.Need-returns-then-first-second invariant-loop-i decreases-loop-i
+returns c = sym (equal-lengths _ _ c.if-first-second.true)
 
-returns-2 : tie.Need-returns-2 invariant-loop decreases-loop
+returns-2 : tie.Need-returns-then-first-i invariant-loop-i decreases-loop-i
 returns-2 c =
     let at_test = c.before.before.before in
-    sym (equal-differ _ _ _ at_test.loop-test.true (omega arith) c.if2.true) ∙ at_test.before.loop.invariant.1
+    sym (equal-differ _ _ _ at_test.loop-i-test.true (omega arith) c.if-first-i.true) ∙ at_test.before.loop-i.invariant.1
 
-loop-again : tie.Need-loop-preserved invariant-loop decreases-loop
+loop-again : tie.Need-loop-i-preserved invariant-loop-i decreases-loop-i
 loop-again c =
     let at_test = c.before.before.before in
-    (omega arith, sym (equal-step _ _ _ at_test.loop-test.true (omega arith) c.if2.false) ∙ at_test.before.loop.invariant.1)
+    (omega arith, sym (equal-step _ _ _ at_test.loop-i-test.true (omega arith) c.if-first-i.false) ∙ at_test.before.loop-i.invariant.1)
 
-returns-3 : tie.Need-returns-3 invariant-loop decreases-loop
-returns-3 c = sym (equal-end _ _ _ c.loop-test.false (omega arith)) ∙ c.before.loop.invariant.1
+returns-3 : tie.Need-returns invariant-loop-i decreases-loop-i
+returns-3 c = sym (equal-end _ _ _ c.loop-i-test.false (omega arith)) ∙ c.before.loop-i.invariant.1
 
-pub is-equal-spec : {M : Type 1} → statement M
-is-equal-spec =
+pub is_equal_spec : {M : Type 1} → statement M
+is_equal_spec =
     tie.close
     (tie.spec
-    invariant-loop
-    decreases-loop
+    invariant-loop-i
+    decreases-loop-i
     returns
     (λ c. (omega arith, refl))
     (λ c. omega arith)
