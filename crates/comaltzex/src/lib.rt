@@ -1,4 +1,6 @@
 // The C interface: numbers in, numbers out. A slice is passed as a pointer and then a length.
+#![tactic(auto)]
+
 ghost use Rattle.std.specs.Prelude.{◌≡◌};
 ghost use Rattle.text.specs.Number;
 ghost use Rattle.dates.specs.Stamps.{date_of};

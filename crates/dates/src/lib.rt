@@ -1,4 +1,6 @@
 // Timestamps, planning lines and the days between two dates. Every function is proved equal to its definition in specs/.
+#![tactic(auto)]
+
 pub mod days;
 pub mod parts;
 pub mod planning;

@@ -1,4 +1,5 @@
 // Reads standard input and prints its table, a line of eight numbers a record, or the refusal.
+#![tactic(auto)]
 
 mod input;
 mod output;

@@ -1,4 +1,6 @@
 // Sheets: an order's buffer, judged and written out as Org text.  [02 order 5]
+#![tactic(auto)]
+
 pub mod buffer;
 pub mod faults;
 pub mod judge;

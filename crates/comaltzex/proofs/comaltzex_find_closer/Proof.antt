@@ -19,10 +19,10 @@ as-numbers s p e x c h i =
     record { found = ap found_number is; start = ap closer_start is; end = ap closer_end is; compared = ap (λ (y : Search). y.compared) i }
 
 returns : tie.Need-returns-in-At
-returns c = as-numbers _ _ _ _ _ c.before.closer-1.given.1 c.before.before.before.search_from-search.ensures
+returns c = as-numbers _ _ _ _ _ c.closer-1.given.1 c.search_from-search.ensures
 
 returns-2 : tie.Need-returns-in-Nothing
-returns-2 c = as-numbers _ _ _ _ _ c.enum_told-1.given.1 c.before.before.search_from-search.ensures
+returns-2 c = as-numbers _ _ _ _ _ c.enum_told-1.given.1 c.search_from-search.ensures
 
 pub comaltzex_find_closer_spec : {M : Type 1} → statement M
 comaltzex_find_closer_spec = tie.close (tie.spec (λ c κs. search rules) (λ c. search rules) (λ c. search rules) returns returns-2)

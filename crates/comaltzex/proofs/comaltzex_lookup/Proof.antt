@@ -16,7 +16,7 @@ in-numbers s p k h = record { number = refl; start = refl; end = refl; further =
 
 returns : tie.Need-returns
 returns c =
-    let answered = c.before.lookup.ensures in
+    let answered = c.lookup.ensures in
     rw (c.value_numbers.ensures, answered.0) (in-numbers _ _ _ (rw answered.0 at answered.1))
 
 pub comaltzex_lookup_spec : {M : Type 1} → statement M

@@ -16,7 +16,7 @@ in-numbers s p d k h = record { number = refl; whose = refl; start = refl; end =
 
 returns : tie.Need-returns
 returns c =
-    let answered = c.before.lookup_with_defaults.ensures in
+    let answered = c.lookup_with_defaults.ensures in
     rw (c.sourced_numbers.ensures, answered.0) (in-numbers _ _ _ _ (rw answered.0 at answered.1))
 
 pub comaltzex_lookup_with_defaults_spec : {M : Type 1} → statement M

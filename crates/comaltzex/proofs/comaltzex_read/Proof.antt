@@ -22,16 +22,16 @@ as-numbers s t x a t' r h settled v = record {
 }
 
 returns : tie.Need-returns-in-Done
-returns c = as-numbers _ _ _ _ _ _ c.before.before.n-1.given.1 c.before.before.before.before.before.before.read.ensures c.answered.ensures
+returns c = as-numbers _ _ _ _ _ _ c.n-1.given.1 c.read.ensures c.answered.ensures
 
 returns-2 : tie.Need-returns-in-TooLong
-returns-2 c = as-numbers _ _ _ _ _ _ c.before.enum_told-1.given.1 c.before.before.before.before.before.read.ensures c.answered-in-TooLong.ensures
+returns-2 c = as-numbers _ _ _ _ _ _ c.enum_told-1.given.1 c.read.ensures c.answered-in-TooLong.ensures
 
 returns-3 : tie.Need-returns-in-TooDeep
-returns-3 c = as-numbers _ _ _ _ _ _ c.before.enum_told-in-TooDeep-1.given.1 c.before.before.before.before.before.read.ensures c.answered-in-TooDeep.ensures
+returns-3 c = as-numbers _ _ _ _ _ _ c.enum_told-in-TooDeep-1.given.1 c.read.ensures c.answered-in-TooDeep.ensures
 
 returns-4 : tie.Need-returns-in-NoRoom
-returns-4 c = as-numbers _ _ _ _ _ _ c.before.before.n-in-NoRoom-1.given.1 c.before.before.before.before.before.before.read.ensures c.answered-in-NoRoom.ensures
+returns-4 c = as-numbers _ _ _ _ _ _ c.n-in-NoRoom-1.given.1 c.read.ensures c.answered-in-NoRoom.ensures
 
 pub comaltzex_read_spec : {M : Type 1} → statement M
 comaltzex_read_spec =

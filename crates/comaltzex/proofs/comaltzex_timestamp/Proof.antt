@@ -25,7 +25,7 @@ returns c =
 
 returns-2 : tie.Need-returns
 returns-2 c =
-    let call = c.before.read_timestamp-stamp in
+    let call = c.read_timestamp-stamp in
     let start = c.before.before.before.before in
     let s = start.args.text.now in
     let end = call.result.end in

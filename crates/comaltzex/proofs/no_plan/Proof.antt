@@ -7,7 +7,7 @@ use Rattle.comaltzex.proofs.no_plan.Tie as tie
 returns : tie.Need-returns
 returns c =
     let at-stamp-numbers2 = c.before in
-    rw (at-stamp-numbers2.before.stamp_numbers.ensures, at-stamp-numbers2.stamp_numbers-2.ensures, c.stamp_numbers-3.ensures)
+    rw (at-stamp-numbers2.stamp_numbers.ensures, at-stamp-numbers2.stamp_numbers-2.ensures, c.stamp_numbers-3.ensures)
 
 pub no_plan_spec : {M : Type 1} → statement M
 no_plan_spec =

@@ -7,7 +7,7 @@ use Rattle.orgtable.proofs.main.Tie as tie
 
 print-input-requires : tie.Need-print_input-requires
 print-input-requires c κs =
-    let read = c.before.before.before.before.read_input-input in
+    let read = c.read_input-input in
     let same = read.auto.1.0 in
     (rw same read.ensures, (omega arith, omega arith))
 

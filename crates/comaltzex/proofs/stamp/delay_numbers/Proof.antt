@@ -6,7 +6,7 @@ use Rattle.comaltzex.proofs.stamp.delay_numbers.Statement.{statement}
 use Rattle.comaltzex.proofs.stamp.delay_numbers.Tie as tie
 
 returns : tie.Need-returns
-returns c = on c.before.if-delay.branch (λ w. rw (w.0.taken, w.1, c.interval_numbers.ensures)) (λ w. rw (w.0.left, w.1, c.interval_numbers.ensures))
+returns c = on c.if-delay.branch (λ w. rw (w.0.taken, w.1, c.interval_numbers.ensures)) (λ w. rw (w.0.left, w.1, c.interval_numbers.ensures))
 
 pub delay_numbers_spec : {M : Type 1} → statement M
 delay_numbers_spec =

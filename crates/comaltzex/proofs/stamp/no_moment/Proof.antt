@@ -5,7 +5,7 @@ use Rattle.comaltzex.proofs.stamp.no_moment.Statement.{statement}
 use Rattle.comaltzex.proofs.stamp.no_moment.Tie as tie
 
 returns : tie.Need-returns
-returns c = rw (c.before.no_repeat.ensures, c.no_delay.ensures)
+returns c = rw (c.no_repeat.ensures, c.no_delay.ensures)
 
 pub no_moment_spec : {M : Type 1} → statement M
 no_moment_spec =

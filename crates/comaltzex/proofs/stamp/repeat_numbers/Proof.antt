@@ -7,7 +7,7 @@ use Rattle.comaltzex.proofs.stamp.repeat_numbers.Tie as tie
 returns : tie.Need-returns
 returns c =
     let at-interval-numbers = c.before in
-    rw (at-interval-numbers.before.mark_number.ensures, at-interval-numbers.interval_numbers.ensures, c.limit_numbers.ensures)
+    rw (at-interval-numbers.mark_number.ensures, at-interval-numbers.interval_numbers.ensures, c.limit_numbers.ensures)
 
 pub repeat_numbers_spec : {M : Type 1} → statement M
 repeat_numbers_spec =

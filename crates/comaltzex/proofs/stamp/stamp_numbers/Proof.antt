@@ -7,14 +7,14 @@ use Rattle.comaltzex.proofs.stamp.stamp_numbers.Tie as tie
 returns : tie.Need-returns-in-Nothing
 returns c =
     let at-no-moment = c.before in
-    rw (at-no-moment.before.enum_told-1.given.1, at-no-moment.no_moment.ensures, c.no_moment-in-Nothing.ensures)
+    rw (at-no-moment.enum_told-1.given.1, at-no-moment.no_moment.ensures, c.no_moment-in-Nothing.ensures)
 
 returns-2 : tie.Need-returns-in-Single
 returns-2 c =
     let at-moment-numbers = c.before in
     let at-kind-number = at-moment-numbers.before in
     rw (
-      at-kind-number.before.before.timestamp-1.given.1,
+      at-kind-number.timestamp-1.given.1,
       at-kind-number.kind_number.ensures,
       at-moment-numbers.moment_numbers.ensures,
       c.no_moment-in-Single.ensures,
@@ -32,7 +32,7 @@ returns-4 c =
     let at-moment-numbers4 = c.before in
     let at-kind-number3 = at-moment-numbers4.before in
     rw (
-      at-kind-number3.before.before.timestamp-in-Dates-1.given.1,
+      at-kind-number3.timestamp-in-Dates-1.given.1,
       at-kind-number3.kind_number-in-Dates.ensures,
       at-moment-numbers4.moment_numbers-in-Dates.ensures,
       c.moment_numbers-in-Dates-2.ensures,

@@ -10,12 +10,12 @@ use Rattle.comaltzex.proofs.value.sourced_numbers.Tie as tie
 returns : tie.Need-returns-in-Order
 returns c =
     let at_value = c.before in
-    rw at_value.before.before.answer-1.given.1 (c.sourced_value.ensures ∙ ap (sourced_value the_order) at_value.value_numbers.ensures)
+    rw at_value.answer-1.given.1 (c.sourced_value.ensures ∙ ap (sourced_value the_order) at_value.value_numbers.ensures)
 
 returns-2 : tie.Need-returns-in-Defaults
 returns-2 c =
     let at_value = c.before in
-    rw at_value.before.before.answer-in-Defaults-1.given.1 (c.sourced_value-in-Defaults.ensures ∙ ap (sourced_value the_defaults) at_value.value_numbers-in-Defaults.ensures)
+    rw at_value.answer-in-Defaults-1.given.1 (c.sourced_value-in-Defaults.ensures ∙ ap (sourced_value the_defaults) at_value.value_numbers-in-Defaults.ensures)
 
 pub sourced_numbers_spec : {M : Type 1} → statement M
 sourced_numbers_spec =

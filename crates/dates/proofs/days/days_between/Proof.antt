@@ -24,34 +24,34 @@ is-calendar-day-requires : tie.Need-is_calendar_day-requires
 is-calendar-day-requires c κs = search rules
 
 returns : tie.Need-returns-then-not-is_calendar_day
-returns c = let e = sym c.before.is_calendar_day.ensures ∙ not-true _ c.if-not-is_calendar_day.true in refused _ _ (search (either, e))
+returns c = let e = sym c.is_calendar_day.ensures ∙ not-true _ c.if-not-is_calendar_day.true in refused _ _ (search (either, e))
 
 is-calendar-day-requires-2 : tie.Need-is_calendar_day-requires-2
 is-calendar-day-requires-2 c κs = search rules
 
 returns-2 : tie.Need-returns-then-not-is_calendar_day-2
-returns-2 c = let e = sym c.before.is_calendar_day-2.ensures ∙ not-true _ c.if-not-is_calendar_day-2.true in refused _ _ (search (either, e))
+returns-2 c = let e = sym c.is_calendar_day-2.ensures ∙ not-true _ c.if-not-is_calendar_day-2.true in refused _ _ (search (either, e))
 
 day-number-requires : tie.Need-day_number-from-requires
-day-number-requires c κs = sym c.before.before.before.is_calendar_day.ensures ∙ not-false _ c.before.before.if-not-is_calendar_day.false
+day-number-requires c κs = sym c.is_calendar_day.ensures ∙ not-false _ c.if-not-is_calendar_day.false
 
 day-number-requires-2 : tie.Need-day_number-to-requires
-day-number-requires-2 c κs = sym c.before.before.is_calendar_day-2.ensures ∙ not-false _ c.before.if-not-is_calendar_day-2.false
+day-number-requires-2 c κs = sym c.is_calendar_day-2.ensures ∙ not-false _ c.if-not-is_calendar_day-2.false
 
 sub-t7 : tie.Need-overflow-sub-t7
-sub-t7 c = search (difference-fits, c.before.day_number-from.ensures.0, c.before.day_number-from.ensures.1, c.day_number-to.ensures.0, c.day_number-to.ensures.1)
+sub-t7 c = search (difference-fits, c.day_number-from.ensures.0, c.day_number-from.ensures.1, c.day_number-to.ensures.0, c.day_number-to.ensures.1)
 
 returns-3 : tie.Need-returns
 unfolding number days
 returns-3 c =
     let b = c.before.before in
-    let e = sym b.before.before.before.is_calendar_day.ensures ∙ not-false _ b.before.before.if-not-is_calendar_day.false in
-    let f = sym b.before.is_calendar_day-2.ensures ∙ not-false _ b.if-not-is_calendar_day-2.false in (
+    let e = sym b.is_calendar_day.ensures ∙ not-false _ b.if-not-is_calendar_day.false in
+    let f = sym b.is_calendar_day-2.ensures ∙ not-false _ b.if-not-is_calendar_day-2.false in (
       rw (
         e,
         f,
       ),
-      rw (e, f) (difference _ _ _ _ c.before.day_number-from.ensures.0 c.day_number-to.ensures.0 c.before.day_number-from.ensures.1 c.day_number-to.ensures.1),
+      rw (e, f) (difference _ _ _ _ c.day_number-from.ensures.0 c.day_number-to.ensures.0 c.day_number-from.ensures.1 c.day_number-to.ensures.1),
     )
 
 pub days_between_spec : {M : Type 1} → statement M

@@ -13,13 +13,13 @@ returns c = let start = c.before.before in rw (lt-leb 1 start.args.date.year (om
 returns-2 : tie.Need-returns-then-date-gt9999
 unfolding is_calendar_day
 returns-2 c =
-    let year = c.before.before.before.before.args.date.year in
+    let year = c.args.date.year in
     rw (le-leb 1 year (omega arith), lt-leb year 9999 (omega arith))
 
 returns-3 : tie.Need-returns-then-date-lt1-2
 unfolding is_calendar_day
 returns-3 c =
-    let date = c.before.before.before.before.before.before.args.date in
+    let date = c.args.date in
     rw (le-leb 1 date.year (omega arith), le-leb date.year 9999 (omega arith), lt-leb 1 date.day (omega arith))
 
 month-days-requires : tie.Need-month_days-requires
@@ -29,7 +29,7 @@ returns-4 : tie.Need-returns
 unfolding is_calendar_day
 returns-4 c =
     let at-month-days = c.before in
-    let date = at-month-days.before.before.before.before.before.before.before.args.date in
+    let date = at-month-days.args.date in
     rw (
       le-leb 1 date.year (omega arith),
       le-leb date.year 9999 (omega arith),

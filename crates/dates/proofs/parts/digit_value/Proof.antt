@@ -15,7 +15,7 @@ sub-result : tie.Need-overflow-sub-result
 unfolding is_digit
 sub-result c =
     let at-is-digit = c.before in
-    let low = leb-true 48 at-is-digit.before.args.b (and_first _ _ (sym at-is-digit.is_digit.ensures ∙ c.if-is_digit.true)) in
+    let low = leb-true 48 at-is-digit.args.b (and_first _ _ (sym at-is-digit.is_digit.ensures ∙ c.if-is_digit.true)) in
     omega arith
 
 returns : tie.Need-returns-then-is_digit
@@ -29,7 +29,7 @@ returns c =
 
 returns-2 : tie.Need-returns-else-is_digit
 unfolding digit
-returns-2 c = (rw (sym c.before.is_digit.ensures ∙ c.if-is_digit.false), omega arith)
+returns-2 c = (rw (sym c.is_digit.ensures ∙ c.if-is_digit.false), omega arith)
 
 pub digit_value_spec : {M : Type 1} → statement M
 digit_value_spec =

@@ -27,7 +27,7 @@ loop-holds c =
     (omega arith, omega arith, omega arith, rw z (omega arith), refl)
 
 mul-v : tie.Need-overflow-mul-v invariant-loop-i decreases-loop-i
-mul-v c = let b = value-small _ _ c.before.loop-i.invariant.3 (omega arith) in omega arith
+mul-v c = let b = value-small _ _ c.loop-i.invariant.3 (omega arith) in omega arith
 
 add-v : tie.Need-overflow-add-v invariant-loop-i decreases-loop-i
 add-v c =
@@ -51,7 +51,7 @@ loop-again c =
     )
 
 returns : tie.Need-returns invariant-loop-i decreases-loop-i
-returns c = sym (value-nil _ _ _ _ c.loop-i-test.false) ∙ c.before.loop-i.invariant.4
+returns c = sym (value-nil _ _ _ _ c.loop-i-test.false) ∙ c.loop-i.invariant.4
 
 pub digits_value_spec : {M : Type 1} → statement M
 digits_value_spec =

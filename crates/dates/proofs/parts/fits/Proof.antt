@@ -8,7 +8,7 @@ use Rattle.dates.proofs.parts.fits.Tie as tie
 
 returns : tie.Need-returns-then-shape-eq48
 unfolding fits
-returns c = rw (eq-eqb _ 48 c.before.if-shape-eq48.true) c.is_digit.ensures
+returns c = rw (eq-eqb _ 48 c.if-shape-eq48.true) c.is_digit.ensures
 
 returns-2 : tie.Need-returns-else-shape-eq48
 unfolding fits

@@ -57,7 +57,7 @@ unfolding time word
 returns-3 c =
     let at-has-shape2 = c.before in
     let at-if1 = at-has-shape2.before.before in
-    record { is = rw (sym at-if1.before.has_shape.ensures ∙ at-if1.if-has_shape.false, sym at-has-shape2.has_shape-2.ensures ∙ c.if-has_shape-2.false); within = tt }
+    record { is = rw (sym at-if1.has_shape.ensures ∙ at-if1.if-has_shape.false, sym at-has-shape2.has_shape-2.ensures ∙ c.if-has_shape-2.false); within = tt }
 
 pub read_time_spec : {M : Type 1} → statement M
 read_time_spec =

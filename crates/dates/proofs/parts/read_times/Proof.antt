@@ -19,14 +19,14 @@ returns : tie.Need-returns-in_default
 unfolding times
 returns c =
     let at-enum-told = c.before in
-    let m = rw at-enum-told.enum_told-1.given.1 at at-enum-told.before.before.skip_gap.ensures in
+    let m = rw at-enum-told.enum_told-1.given.1 at at-enum-told.skip_gap.ensures in
     let r = c.no_range.ensures in
     rw r (record { is = rw m.is; from = omega arith; to = omega arith })
 
 read-time-requires : tie.Need-read_time-requires
 read-time-requires c κs =
     let at_a = c.before in
-    let g = rw at_a.a-1.given.1 at at_a.before.before.skip_gap.ensures in
+    let g = rw at_a.a-1.given.1 at at_a.skip_gap.ensures in
     omega arith
 
 returns-2 : tie.Need-returns-in_default-read_time
@@ -35,7 +35,7 @@ returns-2 c =
     let at-enum-told2 = c.before in
     let at-read-time = at-enum-told2.before.before in
     let at_a = at-read-time.before.before in
-    let g = rw at_a.a-1.given.1 at at_a.before.before.skip_gap.ensures in
+    let g = rw at_a.a-1.given.1 at at_a.skip_gap.ensures in
     let m = rw at-enum-told2.enum_told-in_default-read_time-1.given.1 at at-read-time.read_time.ensures in
     rw c.no_range-in_default-read_time.ensures (record { is = rw (g.is, m.is); from = omega arith; to = omega arith })
 
@@ -44,7 +44,7 @@ skip-word-requires c κs =
     let at_from = c.before.before in
     let at-read-time = at_from.before.before in
     let at_a = at-read-time.before.before in
-    let g = rw at_a.a-1.given.1 at at_a.before.before.skip_gap.ensures in
+    let g = rw at_a.a-1.given.1 at at_a.skip_gap.ensures in
     let f = rw at_from.from-1.given.1 at at-read-time.read_time.ensures in
     omega arith
 
@@ -56,7 +56,7 @@ returns-3 c =
     let at_from = at-skip-word.before.before.before in
     let at-read-time = at_from.before.before in
     let at_a = at-read-time.before.before in
-    let g = rw at_a.a-1.given.1 at at_a.before.before.skip_gap.ensures in
+    let g = rw at_a.a-1.given.1 at at_a.skip_gap.ensures in
     let f = rw at_from.from-1.given.1 at at-read-time.read_time.ensures in
     let m = hyphen (rw at-enum-told3.enum_told-in_default-skip_word-1.given.1 at at-skip-word.skip_word.ensures) in
     rw c.no_range-in_default-skip_word.ensures (record { is = rw (g.is, f.is, m.is); from = omega arith; to = omega arith })
@@ -68,7 +68,7 @@ read-time-requires-2 c κs =
     let at_from = at-skip-word.before.before.before in
     let at-read-time = at_from.before.before in
     let at_a = at-read-time.before.before in
-    let g = rw at_a.a-1.given.1 at at_a.before.before.skip_gap.ensures in
+    let g = rw at_a.a-1.given.1 at at_a.skip_gap.ensures in
     let f = rw at_from.from-1.given.1 at at-read-time.read_time.ensures in
     let h = rw at_c.c-1.given.1 at at-skip-word.skip_word.ensures in
     omega arith
@@ -83,7 +83,7 @@ returns-4 c =
     let at_from = at-skip-word.before.before.before in
     let at-read-time = at_from.before.before in
     let at_a = at-read-time.before.before in
-    let g = rw at_a.a-1.given.1 at at_a.before.before.skip_gap.ensures in
+    let g = rw at_a.a-1.given.1 at at_a.skip_gap.ensures in
     let f = rw at_from.from-1.given.1 at at-read-time.read_time.ensures in
     let h = hyphen (rw at_c.c-1.given.1 at at-skip-word.skip_word.ensures) in
     let m = rw at-enum-told4.enum_told-in_default-read_time-2-1.given.1 at at-read-time2.read_time-2.ensures in
@@ -99,7 +99,7 @@ returns-5 c =
     let at_from = at-skip-word.before.before.before in
     let at-read-time = at_from.before.before in
     let at_a = at-read-time.before.before in
-    let g = rw at_a.a-1.given.1 at at_a.before.before.skip_gap.ensures in
+    let g = rw at_a.a-1.given.1 at at_a.skip_gap.ensures in
     let f = rw at_from.from-1.given.1 at at-read-time.read_time.ensures in
     let h = hyphen (rw at_c.c-1.given.1 at at-skip-word.skip_word.ensures) in
     let u = rw at-until.until-1.given.1 at at-read-time2.read_time-2.ensures in

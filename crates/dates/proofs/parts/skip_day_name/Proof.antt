@@ -14,26 +14,26 @@ use Rattle.dates.proofs.parts.skip_day_name.Tie as tie
 returns : tie.Need-returns-in_default
 unfolding after_day_name
 returns c =
-    let m = rw c.enum_told-1.given.1 at c.before.before.skip_gap.ensures in
+    let m = rw c.enum_told-1.given.1 at c.skip_gap.ensures in
     (rw m.is, omega arith, omega arith)
 
 run-end-requires : tie.Need-run_end-end-requires
 run-end-requires c κs =
     let at_a = c.before in
-    let g = rw at_a.a-1.given.1 at at_a.before.before.skip_gap.ensures in
+    let g = rw at_a.a-1.given.1 at at_a.skip_gap.ensures in
     omega arith
 
 returns-2 : tie.Need-returns-then-end-a
 returns-2 c =
     let at-run-end = c.before in
     let at_a = at-run-end.before.before in
-    let g = rw at_a.a-1.given.1 at at_a.before.before.skip_gap.ensures in
+    let g = rw at_a.a-1.given.1 at at_a.skip_gap.ensures in
     (day_name-none _ _ _ _ _ g at-run-end.run_end-end.ensures (omega arith), omega arith, omega arith)
 
 begins-with-requires : tie.Need-begins_with-requires
 begins-with-requires c κs =
     let at_a = c.before.before.before.before in
-    let g = rw at_a.a-1.given.1 at at_a.before.before.skip_gap.ensures in
+    let g = rw at_a.a-1.given.1 at at_a.skip_gap.ensures in
     omega arith
 
 returns-3 : tie.Need-returns-then-begins_with
@@ -42,7 +42,7 @@ returns-3 c =
     let at-begins-with = c.before in
     let at-run-end = at-begins-with.before.before.before in
     let at_a = at-run-end.before.before in
-    let g = rw at_a.a-1.given.1 at at_a.before.before.skip_gap.ensures in
+    let g = rw at_a.a-1.given.1 at at_a.skip_gap.ensures in
     (day_name-mark _ _ _ _ _ g at-run-end.run_end-end.ensures (sym at-begins-with.begins_with.ensures ∙ c.if-begins_with.true), omega arith, omega arith)
 
 returns-4 : tie.Need-returns

@@ -20,7 +20,7 @@ returns c =
     expect-some _ _ _ _ start.requires.0 start.requires.1 (sym at-begins-with.begins_with.ensures ∙ c.if-begins_with.true)
 
 returns-2 : tie.Need-returns-else-begins_with
-returns-2 c = expect-none _ _ _ _ (sym c.before.begins_with.ensures ∙ c.if-begins_with.false)
+returns-2 c = expect-none _ _ _ _ (sym c.begins_with.ensures ∙ c.if-begins_with.false)
 
 pub skip_word_spec : {M : Type 1} → statement M
 skip_word_spec =

@@ -9,13 +9,13 @@ use Rattle.dates.proofs.planning.read_part.Tie as tie
 returns : tie.Need-returns-in_default
 unfolding planning_part
 returns c =
-    let no = rw c.enum_told-1.given.1 at c.before.before.read_keyword.ensures in
+    let no = rw c.enum_told-1.given.1 at c.read_keyword.ensures in
     (record { is = rw no.0.is; within = tt }, tt)
 
 skip-gap-requires : tie.Need-skip_gap-requires
 skip-gap-requires c κs =
     let at-keyword = c.before in
-    let k = rw at-keyword.keyword-1.given.1 at at-keyword.before.before.read_keyword.ensures in
+    let k = rw at-keyword.keyword-1.given.1 at at-keyword.read_keyword.ensures in
     omega arith
 
 returns-2 : tie.Need-returns-in_default-skip_gap
@@ -23,7 +23,7 @@ unfolding planning_part
 returns-2 c =
     let at-skip-gap = c.before.before in
     let at-keyword = at-skip-gap.before.before in
-    let k = rw at-keyword.keyword-1.given.1 at at-keyword.before.before.read_keyword.ensures in
+    let k = rw at-keyword.keyword-1.given.1 at at-keyword.read_keyword.ensures in
     let no = rw c.enum_told-in_default-skip_gap-1.given.1 at at-skip-gap.skip_gap.ensures in
     (record { is = rw (k.0.is, no.is); within = tt }, tt)
 
@@ -32,7 +32,7 @@ skip-timestamp-requires c κs =
     let at_b = c.before in
     let at-skip-gap = at_b.before.before in
     let at-keyword = at-skip-gap.before.before in
-    let k = rw at-keyword.keyword-1.given.1 at at-keyword.before.before.read_keyword.ensures in
+    let k = rw at-keyword.keyword-1.given.1 at at-keyword.read_keyword.ensures in
     let g = rw at_b.b-1.given.1 at at-skip-gap.skip_gap.ensures in
     omega arith
 
@@ -43,7 +43,7 @@ returns-3 c =
     let at_b = at-skip-timestamp.before.before in
     let at-skip-gap = at_b.before.before in
     let at-keyword = at-skip-gap.before.before in
-    let k = rw at-keyword.keyword-1.given.1 at at-keyword.before.before.read_keyword.ensures in
+    let k = rw at-keyword.keyword-1.given.1 at at-keyword.read_keyword.ensures in
     let g = rw at_b.b-1.given.1 at at-skip-gap.skip_gap.ensures in
     let no = rw c.enum_told-in_default-skip_timestamp-1.given.1 at at-skip-timestamp.skip_timestamp.ensures in
     (record { is = rw (k.0.is, g.is, no.is); within = tt }, tt)
@@ -56,7 +56,7 @@ returns-4 c =
     let at_b = at-skip-timestamp.before.before in
     let at-skip-gap = at_b.before.before in
     let at-keyword = at-skip-gap.before.before in
-    let k = rw at-keyword.keyword-1.given.1 at at-keyword.before.before.read_keyword.ensures in
+    let k = rw at-keyword.keyword-1.given.1 at at-keyword.read_keyword.ensures in
     let g = rw at_b.b-1.given.1 at at-skip-gap.skip_gap.ensures in
     let s = rw at-end.end-1.given.1 at at-skip-timestamp.skip_timestamp.ensures in
     (record { is = rw (k.0.is, g.is, s.is); within = omega arith }, omega arith)

@@ -37,7 +37,7 @@ loop-holds c =
 returns : tie.Need-returns-in_default invariant-loop-at decreases-loop-at
 returns c =
     let at-read-part = c.before.before in
-    let inv = at-read-part.before.before.loop-at.invariant in
+    let inv = at-read-part.loop-at.invariant in
     let no = rw c.enum_told-1.given.1 at at-read-part.read_part.ensures in
     record { is = sym inv.4.1.1 ∙ planning-missing _ _ _ _ inv.4.0 no.0; within = tt }
 
@@ -45,7 +45,7 @@ skip-gap-requires : tie.Need-skip_gap-requires invariant-loop-at decreases-loop-
 skip-gap-requires c κs =
     let at-keyword = c.before.before in
     let at-read-part = at-keyword.before.before in
-    let inv = at-read-part.before.before.loop-at.invariant in
+    let inv = at-read-part.loop-at.invariant in
     let part = rw at-keyword.keyword-1.given.1 at at-read-part.read_part.ensures in
     omega arith
 
@@ -77,7 +77,7 @@ returns-3 c =
     let at-skip-gap = at-enum-told2.before.before in
     let at-keyword = at-skip-gap.before.before.before in
     let at-read-part = at-keyword.before.before in
-    let inv = at-read-part.before.before.loop-at.invariant in
+    let inv = at-read-part.loop-at.invariant in
     let part = rw at-keyword.keyword-1.given.1 at at-read-part.read_part.ensures in
     let no = rw at-enum-told2.enum_told-in_default-skip_gap-1.given.1 at at-skip-gap.skip_gap.ensures in
     record { is = sym inv.4.1.1 ∙ planning-other _ _ _ _ _ _ _ part.0 inv.4.0 (omega (arith, inv.4.1.0)) no (omega (arith, part.1)) inv.2; within = tt }
@@ -87,7 +87,7 @@ loop-less c =
     let at_next = c.before in
     let at-skip-gap = at_next.before.before in
     let at-keyword = at-skip-gap.before.before.before in
-    let part = rw at-keyword.keyword-1.given.1 at at-keyword.before.before.read_part.ensures in
+    let part = rw at-keyword.keyword-1.given.1 at at-keyword.read_part.ensures in
     let g = rw at_next.next-1.given.1 at at-skip-gap.skip_gap.ensures in
     omega (arith, part.1)
 
@@ -126,7 +126,7 @@ loop-again c =
 
 returns-4 : tie.Need-returns invariant-loop-at decreases-loop-at
 returns-4 c =
-    let inv = c.before.loop-at.invariant in
+    let inv = c.loop-at.invariant in
     record { is = sym inv.4.1.1 ∙ planning-end _ _ _ _ inv.4.0 c.loop-at-test.false; within = tt }
 
 pub read_parts_spec : {M : Type 1} → statement M

@@ -8,24 +8,24 @@ use Rattle.dates.proofs.planning.read_planning.Tie as tie
 
 returns : tie.Need-returns-in_default
 unfolding planning_stamps
-returns c = let p = rw c.enum_told-1.given.1 at c.before.before.read_parts.ensures in rw p.is
+returns c = let p = rw c.enum_told-1.given.1 at c.read_parts.ensures in rw p.is
 
 stamp-at-requires : tie.Need-stamp_at-requires
 stamp-at-requires c κs =
     let at_places = c.before in
-    let p = rw at_places.places-1.given.1 at at_places.before.before.read_parts.ensures in
+    let p = rw at_places.places-1.given.1 at at_places.read_parts.ensures in
     omega arith
 
 stamp-at-requires-2 : tie.Need-stamp_at-requires-2
 stamp-at-requires-2 c κs =
     let at_places = c.before.before in
-    let p = rw at_places.places-1.given.1 at at_places.before.before.read_parts.ensures in
+    let p = rw at_places.places-1.given.1 at at_places.read_parts.ensures in
     omega arith
 
 stamp-at-requires-3 : tie.Need-stamp_at-requires-3
 stamp-at-requires-3 c κs =
     let at_places = c.before.before.before in
-    let p = rw at_places.places-1.given.1 at at_places.before.before.read_parts.ensures in
+    let p = rw at_places.places-1.given.1 at at_places.read_parts.ensures in
     omega arith
 
 returns-2 : tie.Need-returns
@@ -34,7 +34,7 @@ returns-2 c =
     let at-stamp-at2 = c.before in
     let at-stamp-at = at-stamp-at2.before in
     let at_places = at-stamp-at.before.before in
-    let p = rw at_places.places-1.given.1 at at_places.before.before.read_parts.ensures in
+    let p = rw at_places.places-1.given.1 at at_places.read_parts.ensures in
     rw (p.is, at-stamp-at.stamp_at.ensures, at-stamp-at2.stamp_at-2.ensures, c.stamp_at-3.ensures)
 
 pub read_planning_spec : {M : Type 1} → statement M

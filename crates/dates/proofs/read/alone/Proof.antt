@@ -8,7 +8,7 @@ returns : tie.Need-returns-in-Nothing
 returns c = rw c.enum_told-1.given.1
 
 returns-2 : tie.Need-returns-in-At
-returns-2 c = rw c.before.until-1.given.1
+returns-2 c = rw c.until-1.given.1
 
 pub alone_spec : {M : Type 1} → statement M
 alone_spec =

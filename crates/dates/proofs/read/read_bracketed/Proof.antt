@@ -8,19 +8,19 @@ use Rattle.dates.proofs.read.read_bracketed.Tie as tie
 half-at-requires : tie.Need-half_at-requires
 half-at-requires c κs =
     let at-end = c.before in
-    let span = rw at-end.end-1.given.1 at at-end.before.before.skip_bracketed.ensures in
+    let span = rw at-end.end-1.given.1 at at-end.skip_bracketed.ensures in
     omega (arith, span.dates)
 
 half-at-requires-2 : tie.Need-half_at-requires-in-Two
 half-at-requires-2 c κs =
     let at_second = c.before in
-    let span = rw at_second.second-1.given.1 at at_second.before.before.skip_bracketed.ensures in
+    let span = rw at_second.second-1.given.1 at at_second.skip_bracketed.ensures in
     omega (arith, span.dates)
 
 half-at-requires-3 : tie.Need-half_at-requires-in-Two-2
 half-at-requires-3 c κs =
     let at_second = c.before.before in
-    let span = rw at_second.second-1.given.1 at at_second.before.before.skip_bracketed.ensures in
+    let span = rw at_second.second-1.given.1 at at_second.skip_bracketed.ensures in
     omega (arith, span.dates)
 
 returns : tie.Need-returns-in-One

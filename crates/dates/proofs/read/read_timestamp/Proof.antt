@@ -24,7 +24,7 @@ returns : tie.Need-returns-then-begins_with
 unfolding timestamp word
 returns c =
     let at-if1 = c.before.before.before in
-    let p = sym at-if1.before.begins_with.ensures ∙ at-if1.if-begins_with.true in
+    let p = sym at-if1.begins_with.ensures ∙ at-if1.if-begins_with.true in
     let b = c.read_bracketed.ensures in
     record { is = rw p b.is; from = b.from; to = b.to }
 
@@ -46,7 +46,7 @@ returns-2 c =
     let at-if1 = at-begins-with2.before.before in
     let p = sym at-begins-with2.begins_with-2.ensures ∙ at-if2.if-begins_with-2.true in
     let b = c.read_bracketed-then-begins_with-2.ensures in
-    record { is = rw (sym at-if1.before.begins_with.ensures ∙ at-if1.if-begins_with.false, p) b.is; from = b.from; to = b.to }
+    record { is = rw (sym at-if1.begins_with.ensures ∙ at-if1.if-begins_with.false, p) b.is; from = b.from; to = b.to }
 
 returns-3 : tie.Need-returns
 unfolding timestamp word
@@ -55,7 +55,7 @@ returns-3 c =
     let at-if1 = at-begins-with2.before.before in
     record {
       is = rw (
-        sym at-if1.before.begins_with.ensures ∙ at-if1.if-begins_with.false,
+        sym at-if1.begins_with.ensures ∙ at-if1.if-begins_with.false,
         sym at-begins-with2.begins_with-2.ensures ∙ c.if-begins_with-2.false,
       );
       from = omega arith;

@@ -18,13 +18,13 @@ use Rattle.dates.proofs.repeats.read_delay.Tie as tie
 returns : tie.Need-returns-in_default
 unfolding delay
 returns c =
-    let no = rw c.enum_told-1.given.1 at c.before.before.skip_gap.ensures in
+    let no = rw c.enum_told-1.given.1 at c.skip_gap.ensures in
     record { is = rw no.is; within = tt }
 
 run-end-requires : tie.Need-run_end-b-requires
 run-end-requires c κs =
     let at_a = c.before in
-    let g = rw at_a.a-1.given.1 at at_a.before.before.skip_gap.ensures in
+    let g = rw at_a.a-1.given.1 at at_a.skip_gap.ensures in
     omega arith
 
 returns-2 : tie.Need-returns-then-b-a

@@ -61,7 +61,7 @@ returns-4 c =
     let at-if1 = at-begins-with2.before.before in
     record {
       is = rw (
-        sym at-if1.before.begins_with.ensures ∙ at-if1.if-begins_with.false,
+        sym at-if1.begins_with.ensures ∙ at-if1.if-begins_with.false,
         sym at-begins-with2.begins_with-2.ensures ∙ at-if2.if-begins_with-2.false,
         sym at-begins-with3.begins_with-3.ensures ∙ c.if-begins_with-3.false,
       );

@@ -10,13 +10,13 @@ use Rattle.dates.proofs.repeats.read_repeat.Tie as tie
 returns : tie.Need-returns-in_default
 unfolding repeat
 returns c =
-    let no = rw c.enum_told-1.given.1 at c.before.before.skip_gap.ensures in
+    let no = rw c.enum_told-1.given.1 at c.skip_gap.ensures in
     record { is = rw no.is; within = tt }
 
 read-mark-requires : tie.Need-read_mark-requires
 read-mark-requires c κs =
     let at_a = c.before in
-    let g = rw at_a.a-1.given.1 at at_a.before.before.skip_gap.ensures in
+    let g = rw at_a.a-1.given.1 at at_a.skip_gap.ensures in
     omega arith
 
 returns-2 : tie.Need-returns-in_default-read_mark
@@ -24,7 +24,7 @@ unfolding repeat
 returns-2 c =
     let at-read-mark = c.before.before in
     let at_a = at-read-mark.before.before in
-    let g = rw at_a.a-1.given.1 at at_a.before.before.skip_gap.ensures in
+    let g = rw at_a.a-1.given.1 at at_a.skip_gap.ensures in
     let no = rw c.enum_told-in_default-read_mark-1.given.1 at at-read-mark.read_mark.ensures in
     record { is = rw (g.is, no.is); within = tt }
 
@@ -33,7 +33,7 @@ read-interval-requires c κs =
     let at_mark = c.before in
     let at-read-mark = at_mark.before.before in
     let at_a = at-read-mark.before.before in
-    let g = rw at_a.a-1.given.1 at at_a.before.before.skip_gap.ensures in
+    let g = rw at_a.a-1.given.1 at at_a.skip_gap.ensures in
     let m = rw at_mark.mark-1.given.1 at at-read-mark.read_mark.ensures in
     omega arith
 
@@ -44,7 +44,7 @@ returns-3 c =
     let at_mark = at-read-interval.before.before in
     let at-read-mark = at_mark.before.before in
     let at_a = at-read-mark.before.before in
-    let g = rw at_a.a-1.given.1 at at_a.before.before.skip_gap.ensures in
+    let g = rw at_a.a-1.given.1 at at_a.skip_gap.ensures in
     let m = rw at_mark.mark-1.given.1 at at-read-mark.read_mark.ensures in
     let no = rw c.enum_told-in_default-read_interval-1.given.1 at at-read-interval.read_interval.ensures in
     record { is = rw (g.is, m.is, no.is); within = tt }
@@ -56,7 +56,7 @@ skip-word-requires c κs =
     let at_mark = at-read-interval.before.before in
     let at-read-mark = at_mark.before.before in
     let at_a = at-read-mark.before.before in
-    let g = rw at_a.a-1.given.1 at at_a.before.before.skip_gap.ensures in
+    let g = rw at_a.a-1.given.1 at at_a.skip_gap.ensures in
     let m = rw at_mark.mark-1.given.1 at at-read-mark.read_mark.ensures in
     let i = rw at_every.every-1.given.1 at at-read-interval.read_interval.ensures in
     omega arith
@@ -70,7 +70,7 @@ returns-4 c =
     let at_mark = at-read-interval.before.before in
     let at-read-mark = at_mark.before.before in
     let at_a = at-read-mark.before.before in
-    let g = rw at_a.a-1.given.1 at at_a.before.before.skip_gap.ensures in
+    let g = rw at_a.a-1.given.1 at at_a.skip_gap.ensures in
     let m = rw at_mark.mark-1.given.1 at at-read-mark.read_mark.ensures in
     let i = rw at_every.every-1.given.1 at at-read-interval.read_interval.ensures in
     let no = rw c.enum_told-in_default-skip_word-1.given.1 at at-skip-word.skip_word.ensures in
@@ -105,7 +105,7 @@ returns-5 c =
     let at_mark = at-read-interval.before.before in
     let at-read-mark = at_mark.before.before in
     let at_a = at-read-mark.before.before in
-    let g = rw at_a.a-1.given.1 at at_a.before.before.skip_gap.ensures in
+    let g = rw at_a.a-1.given.1 at at_a.skip_gap.ensures in
     let m = rw at_mark.mark-1.given.1 at at-read-mark.read_mark.ensures in
     let i = rw at_every.every-1.given.1 at at-read-interval.read_interval.ensures in
     let w = rw at-d.d-1.given.1 at at-skip-word.skip_word.ensures in
@@ -124,7 +124,7 @@ returns-6 c =
     let at_mark = at-read-interval.before.before in
     let at-read-mark = at_mark.before.before in
     let at_a = at-read-mark.before.before in
-    let g = rw at_a.a-1.given.1 at at_a.before.before.skip_gap.ensures in
+    let g = rw at_a.a-1.given.1 at at_a.skip_gap.ensures in
     let m = rw at_mark.mark-1.given.1 at at-read-mark.read_mark.ensures in
     let i = rw at_every.every-1.given.1 at at-read-interval.read_interval.ensures in
     let w = rw at-d.d-1.given.1 at at-skip-word.skip_word.ensures in

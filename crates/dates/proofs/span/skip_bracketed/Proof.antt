@@ -49,7 +49,7 @@ returns-2 c =
 skip-word-requires : tie.Need-skip_word-requires
 skip-word-requires c κs =
     let at_a = c.before.before in
-    let f = rw at_a.a-1.given.1 at at_a.before.before.skip_half.ensures in
+    let f = rw at_a.a-1.given.1 at at_a.skip_half.ensures in
     omega arith
 
 returns-3 : tie.Need-returns-in_default-skip_word

@@ -13,7 +13,7 @@ use Rattle.dates.proofs.span.skip_half.Tie as tie
 
 returns : tie.Need-returns-then-not-is_date
 unfolding half date
-returns c = (record { is = rw (sym c.before.is_date.ensures.0 ∙ not-true _ c.if-not-is_date.true); within = tt }, tt)
+returns c = (record { is = rw (sym c.is_date.ensures.0 ∙ not-true _ c.if-not-is_date.true); within = tt }, tt)
 
 skip-day-name-requires : tie.Need-skip_day_name-a-requires
 skip-day-name-requires c κs =

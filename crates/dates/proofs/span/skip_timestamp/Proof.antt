@@ -27,7 +27,7 @@ unfolding timestamp word
 returns c =
     let at-skip-bracketed = c.before in
     let at-if1 = at-skip-bracketed.before.before.before in
-    rw c.span_end.ensures (span-stamp _ _ _ Active _ _ (rw (sym at-if1.before.begins_with.ensures ∙ at-if1.if-begins_with.true)) _ at-skip-bracketed.skip_bracketed.ensures)
+    rw c.span_end.ensures (span-stamp _ _ _ Active _ _ (rw (sym at-if1.begins_with.ensures ∙ at-if1.if-begins_with.true)) _ at-skip-bracketed.skip_bracketed.ensures)
 
 skip-bracketed-requires-2 : tie.Need-skip_bracketed-requires-then-begins_with-2
 unfolding word
@@ -47,7 +47,7 @@ returns-2 c =
     let at-begins-with2 = at-if2.before in
     let at-if1 = at-begins-with2.before.before in
     rw c.span_end-then-begins_with-2.ensures (span-stamp _ _ _ Inactive _ _ (rw (
-      sym at-if1.before.begins_with.ensures ∙ at-if1.if-begins_with.false,
+      sym at-if1.begins_with.ensures ∙ at-if1.if-begins_with.false,
       sym at-begins-with2.begins_with-2.ensures ∙ at-if2.if-begins_with-2.true,
     )) _ at-skip-bracketed2.skip_bracketed-then-begins_with-2.ensures)
 
@@ -58,7 +58,7 @@ returns-3 c =
     let at-if1 = at-begins-with2.before.before in
     record {
       is = rw (
-        sym at-if1.before.begins_with.ensures ∙ at-if1.if-begins_with.false,
+        sym at-if1.begins_with.ensures ∙ at-if1.if-begins_with.false,
         sym at-begins-with2.begins_with-2.ensures ∙ c.if-begins_with-2.false,
       );
       within = tt;

@@ -14,16 +14,16 @@ use Rattle.intake.proofs.book.put_added.Tie as tie
 
 put-sheet-requires : tie.Need-put_sheet-requires
 unfolding added_to
-put-sheet-requires c κs = let p = c.before.before.before.before.requires in (p.0, rw c.before.if-ended.true at p.1)
+put-sheet-requires c κs = let p = c.requires in (p.0, rw c.if-ended.true at p.1)
 
 -- There is room for the byte 10 and the sheet after it.
-room : (c : tie.Else-ended) → let a = c.before.before.before.args in
+room : (c : tie.Else-ended) → let a = c.args in
     length (sheet (order_at a.order.now a.layout)) < length a.free-1.now
 unfolding added_to
-room c = let h = rw c.if-ended.false at c.before.before.before.requires.1 in omega (arith, h)
+room c = let h = rw c.if-ended.false at c.requires.1 in omega (arith, h)
 
-first : (c : tie.Else-ended) → 1 ≤ length (set c.before.before.before.args.free-1.now 0 10)
-first c = omega (arith, room c, length-set c.before.before.before.args.free-1.now 0 10)
+first : (c : tie.Else-ended) → 1 ≤ length (set c.args.free-1.now 0 10)
+first c = omega (arith, room c, length-set c.args.free-1.now 0 10)
 
 put-sheet-requires-2 : tie.Need-put_sheet-requires-else-ended
 put-sheet-requires-2 c κs =
@@ -32,21 +32,21 @@ put-sheet-requires-2 c κs =
 
 returns : tie.Need-returns-then-ended
 unfolding added_to
-returns c = rw c.before.before.before.before.if-ended.true c.before.before.put_sheet.ensures.output
+returns c = rw c.if-ended.true c.put_sheet.ensures.output
 
 same-length-2 : tie.Need-shape_of-free-else-ended
 same-length-2 c =
-    let free = c.before.before.before.before.before.before.before.args.free-1.now in
-    let put = c.before.before.put_sheet-else-ended in
+    let free = c.args.free-1.now in
+    let put = c.put_sheet-else-ended in
     same_len_mid 1 (length (set free 0 10) - 1) (set free 0 10) put.new.1.1.0 put.auto.1.1.0 ∙ length-set free 0 10
 
 returns-2 : tie.Need-returns-else-ended
 unfolding added_to
 returns-2 c =
     let at-put = c.before.before in
-    let free = at-put.before.before.before.before.before.args.free-1.now in
+    let free = at-put.args.free-1.now in
     let some = room at-put.before.before in
-    rw at-put.before.before.if-ended.false
+    rw at-put.if-ended.false
     (ap (put_mid 1 (length (set free 0 10) - 1) (set free 0 10)) at-put.put_sheet-else-ended.ensures.output
     ∙ laid-lent (set free 0 10) 1 _ (omega (arith, some, length-set free 0 10)) ∙ laid-first free 10 _ (omega (arith, some)))
 

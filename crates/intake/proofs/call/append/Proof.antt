@@ -16,39 +16,39 @@ use Rattle.intake.proofs.call.append.Statement.{statement}
 use Rattle.intake.proofs.call.append.Tie as tie
 
 -- what is written, and the bytes in use after it
-written : (c : tie.After-is_ended-ended) → let a = c.before.before.before.before.args in
+written : (c : tie.After-is_ended-ended) → let a = c.args in
     let x = sheet (order_at a.order.now a.layout) in
     added_to c.is_ended-ended.result x ≡ added (text (book_of a.book-1.now a.used)) x
 unfolding added text
-written c = let a = c.before.before.before.before.args in
+written c = let a = c.args in
     ap (λ (e : Bool). added_to e (sheet (order_at a.order.now a.layout))) c.is_ended-ended.ensures
 
-end : (c : tie.After-added_size) → let a = c.before.before.before.before.before.args in
+end : (c : tie.After-added_size) → let a = c.args in
     let b = book_of a.book-1.now a.used in
     a.used + c.added_size.result ≡ a.used + length (added (text b) (sheet (order_at a.order.now a.layout)))
 end c =
-    let a = c.before.before.before.before.before.args in
+    let a = c.args in
     ap (λ (n : ℕ). a.used + n) (c.added_size.ensures.0 ∙ ap length (written c.before))
 
 returns : tie.Need-returns-then-end-gt-TEXT
-returns c = answers c.answered.ensures refl refl (appended-long _ _ (rw (end c.before.before) at c.before.if-end-gt-TEXT.true))
+returns c = answers c.answered.ensures refl refl (appended-long _ _ (rw (end c.before.before) at c.if-end-gt-TEXT.true))
 
 returns-2 : tie.Need-returns-then-book-end
 returns-2 c =
     let at-limit = c.before.before in
     let e = end at-limit.before in
-    answers c.answered-then-book-end.ensures refl refl (appended-short _ _ (rw e at at-limit.if-end-gt-TEXT.false) (rw e at c.before.if-book-end.true))
+    answers c.answered-then-book-end.ensures refl refl (appended-short _ _ (rw e at at-limit.if-end-gt-TEXT.false) (rw e at c.if-book-end.true))
 
 put-added-requires : tie.Need-put_added-requires
 put-added-requires c κs =
     let at_size = c.before.before.before in
     let start = at_size.before.before.before.before.before in
-    (start.requires.0, omega (arith, at_size.added_size.ensures.0, c.before.if-book-end.false, c.put_added-arg-1.given.1))
+    (start.requires.0, omega (arith, at_size.added_size.ensures.0, c.if-book-end.false, c.put_added-arg-1.given.1))
 
 same-length-3 : tie.Need-shape_of-book
 same-length-3 c =
     let at-put = c.before.before.before in
-    let a = at-put.before.before.before.before.before.before.before.before.before.args in
+    let a = at-put.args in
     same_len_mid a.used (length a.book-1.now - a.used) a.book-1.now at-put.put_added.new.1.1.1.0 at-put.put_added.auto.1.1.1.0
 
 returns-3 : tie.Need-returns
@@ -64,7 +64,7 @@ returns-3 c =
     let k = length book - used in
     let left = ap (put_mid used k book) (at-put.put_added.ensures ∙ ap (laid (mid_of used k book) 0) (written at_size.before)) in
     answers c.answered-2.ensures e (left ∙ laid-lent book used _ start.requires.1)
-    (appended-done _ _ (rw e at at_room.before.if-end-gt-TEXT.false) (rw e at at_room.if-book-end.false))
+    (appended-done _ _ (rw e at at_room.if-end-gt-TEXT.false) (rw e at at_room.if-book-end.false))
 
 pub append_spec : {M : Type 1} → statement M
 append_spec =

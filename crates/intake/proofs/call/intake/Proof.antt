@@ -11,12 +11,12 @@ use Rattle.intake.proofs.call.intake.Tie as tie
 returns : tie.Need-returns-in-Refused
 returns c =
     let at-number = c.before.before in
-    let refused = rw at-number.number-1.given.1 at at-number.before.before.judge.ensures in
+    let refused = rw at-number.number-1.given.1 at at-number.judge.ensures in
     settled _ _ _ _ (answers c.answered.ensures refl refl (call-refused _ _ _ refused))
 
 -- the order is good
-good : (c : tie.In-Good-2) → JudgedAs c.before.before.before.before.before.args.order.now (Good c.layout-1.given.0.0)
-good c = rw c.layout-1.given.1 at c.before.before.judge.ensures
+good : (c : tie.In-Good-2) → JudgedAs c.args.order.now (Good c.layout-1.given.0.0)
+good c = rw c.layout-1.given.1 at c.judge.ensures
 
 returns-2 : tie.Need-returns-in-Good
 returns-2 c =
@@ -34,5 +34,5 @@ intake_spec =
     (λ c. search rules)
     (λ c κs. (good c.before.before).0)
     returns
-    (λ c. c.before.before.take_good.auto.0)
+    (λ c. c.take_good.auto.0)
     returns-2)

@@ -32,32 +32,32 @@ decreases-loop-at book₀ used log at₀ reached₀ book at reached = length log
 
 returns : tie.Need-returns-then-not-is_whole invariant-loop-at decreases-loop-at
 returns c =
-    let cut = sym c.before.before.is_whole.ensures ∙ not-true _ c.before.if-not-is_whole.true in
+    let cut = sym c.is_whole.ensures ∙ not-true _ c.if-not-is_whole.true in
     log-settled _ _ _ _ (answers c.answered.ensures refl refl (played-none _ _ cut))
 
 loop-holds : tie.Need-loop-at-init invariant-loop-at decreases-loop-at
-loop-holds c = (omega arith, refl, sym c.before.is_whole.ensures ∙ not-false _ c.if-not-is_whole.false, refl)
+loop-holds c = (omega arith, refl, sym c.is_whole.ensures ∙ not-false _ c.if-not-is_whole.false, refl)
 
 -- the order's length is in the log, and so is the order
 width : (c : tie.In-loop-at invariant-loop-at decreases-loop-at) →
-    c.before.loop-at.at + log_width ≤ length c.before.before.before.before.before.before.args.log.now
-width c = orders-width _ c.before.loop-at.at c.loop-at-test.true c.before.loop-at.invariant.2
+    c.loop-at.at + log_width ≤ length c.args.log.now
+width c = orders-width _ c.loop-at.at c.loop-at-test.true c.loop-at.invariant.2
 
 to : (c : tie.After-low_first invariant-loop-at decreases-loop-at) → let at-loop = c.before in
-    at-loop.before.loop-at.at + log_width + c.low_first.result ≤ length at-loop.before.before.before.before.before.before.args.log.now
+    at-loop.loop-at.at + log_width + c.low_first.result ≤ length at-loop.args.log.now
 to c = let at-loop = c.before in
-    orders-to _ at-loop.before.loop-at.at at-loop.loop-at-test.true at-loop.before.loop-at.invariant.2 _ c.low_first.ensures.0
+    orders-to _ at-loop.loop-at.at at-loop.loop-at-test.true at-loop.loop-at.invariant.2 _ c.low_first.ensures.0
 
 loop-less : tie.Need-loop-at-smaller invariant-loop-at decreases-loop-at
-loop-less c = let at_low = c.before.before.before.before.before in omega (arith, to at_low, at_low.before.loop-at-test.true)
+loop-less c = let at_low = c.before.before.before.before.before in omega (arith, to at_low, at_low.loop-at-test.true)
 
 loop-again : tie.Need-loop-at-preserved invariant-loop-at decreases-loop-at
 loop-again c =
     let at-intake = c.before.before in
     let at_low = at-intake.before.before.before in
     let at-loop = at_low.before in
-    let l = at-loop.before.loop-at in
-    let log = at-loop.before.before.before.before.before.before.args.log.now in
+    let l = at-loop.loop-at in
+    let log = at-loop.args.log.now in
     let from = l.at + log_width in
     let e = from + at_low.low_first.result in
     let b = book_of l.book-1 l.reached in
@@ -76,8 +76,8 @@ loop-again c =
 returns-2 : tie.Need-returns invariant-loop-at decreases-loop-at
 unfolding played
 returns-2 c =
-    let l = c.before.before.loop-at in
-    let end = orders-end _ l.at c.before.loop-at-test.false in
+    let l = c.loop-at in
+    let end = orders-end _ l.at c.loop-at-test.false in
     log-settled _ _ _ _ (answers c.answered-2.ensures refl refl (l.invariant.3 ∙ ap (played_for (book_of l.book-1 l.reached)) end ∙ played-end _))
 
 pub intake_log_spec : {M : Type 1} → statement M
@@ -100,5 +100,5 @@ intake_log_spec =
     loop-less
     loop-again
     (λ c κs. search rules)
-    (λ c. c.before.before.loop-at.invariant.1)
+    (λ c. c.loop-at.invariant.1)
     returns-2)

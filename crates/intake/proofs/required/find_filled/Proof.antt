@@ -9,18 +9,18 @@ use Rattle.intake.proofs.required.find_filled.Tie as tie
 
 returns : tie.Need-returns-in_default
 unfolding value_of is_empty
-returns c = rw (rw c.enum_told-1.given.1 at c.before.before.find_value.ensures)
+returns c = rw (rw c.enum_told-1.given.1 at c.find_value.ensures)
 
 returns-2 : tie.Need-returns-then-to-from
 unfolding value_of is_empty
 returns-2 c =
-    let found = rw c.before.before.from-1.given.1 at c.before.before.before.before.find_value.ensures in
+    let found = rw c.from-1.given.1 at c.find_value.ensures in
     rw (found.2, part-nil _ _ _ c.if-to-from.true)
 
 returns-3 : tie.Need-returns
 unfolding value_of
 returns-3 c =
-    let found = rw c.before.before.from-1.given.1 at c.before.before.before.before.find_value.ensures in
+    let found = rw c.from-1.given.1 at c.find_value.ensures in
     (omega (arith, c.if-to-from.false), found.1, rw found.2)
 
 pub find_filled_spec : {M : Type 1} → statement M

@@ -41,16 +41,16 @@ refused BadKey s v h = refl
 returns : tie.Need-returns-in_default
 unfolding looks_up word
 returns c =
-    let a = c.before.before.before.before.before.args in
+    let a = c.args in
     let s = a.text.now in
     let v = a.value.now in
-    sym (refused c.before.lookup.result s v c.in-Found.keys2) ∙ ap (λ (r : Answer). gives r s v) c.before.lookup.ensures.0
+    sym (refused c.lookup.result s v c.in-Found.keys2) ∙ ap (λ (r : Answer). gives r s v) c.lookup.ensures.0
 
 inside : (c : tie.In-Found-2) →
-    Inside c.before.before.before.before.before.before.args.text.now (Found c.start-1.given.0.0 c.start-1.given.0.1.0)
+    Inside c.args.text.now (Found c.start-1.given.0.0 c.start-1.given.0.1.0)
 inside c =
     let at-lookup = c.before.before in
-    let s = at-lookup.before.before.before.before.args.text.now in
+    let s = at-lookup.args.text.now in
     let h : Inside s at-lookup.lookup.result = rw at-lookup.lookup.ensures.0 (lookup-inside s _ _) in
     rw c.start-1.given.1 at h
 
@@ -59,7 +59,7 @@ unfolding looks_up word
 returns-2 c =
     let at-start = c.before.before.before in
     let at-lookup = at-start.before.before in
-    let a = at-lookup.before.before.before.before.args in
+    let a = at-lookup.args in
     c.is_equal.ensures ∙ ap (λ (r : Answer). gives r a.text.now a.value.now) (sym at-start.start-1.given.1 ∙ at-lookup.lookup.ensures.0)
 
 pub looks_up_spec : {M : Type 1} → statement M

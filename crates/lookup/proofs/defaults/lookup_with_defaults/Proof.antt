@@ -57,7 +57,7 @@ module _ (s : List ℕ) (p : ℕ) (d k : List ℕ) (r : Answer) (e : r ≡ looku
     turned i = with_defaults-defaults s p d k (lacking ∙ ap not i)
 
 returns : tie.Need-returns-in_default
-returns c = answers _ _ _ _ _ (stands _ _ _ _ _ c.before.lookup-answer.ensures.0 c.in-NoKey.keys2)
+returns c = answers _ _ _ _ _ (stands _ _ _ _ _ c.lookup-answer.ensures.0 c.in-NoKey.keys2)
 
 returns-2 : tie.Need-returns-then-is_reserved
 returns-2 c =

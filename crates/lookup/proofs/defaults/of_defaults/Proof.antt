@@ -12,7 +12,7 @@ returns c = sym (of_defaults-long _ _ (omega arith))
 
 returns-2 : tie.Need-returns
 returns-2 c =
-    let found = c.before.next_heading.ensures in
+    let found = c.next_heading.ensures in
     c.lookup.ensures.0 ∙ sym (of_defaults-at _ _ _ found)
 
 pub of_defaults_spec : {M : Type 1} → statement M

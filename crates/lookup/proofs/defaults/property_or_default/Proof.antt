@@ -9,13 +9,13 @@ use Rattle.lookup.proofs.defaults.property_or_default.Statement.{statement}
 use Rattle.lookup.proofs.defaults.property_or_default.Tie as tie
 
 -- the answer, where it is the order's and where it is the defaults'
-from-order : (c : tie.In-Order-2) → let a = c.before.before.before.before.before.before.args in
+from-order : (c : tie.In-Order-2) → let a = c.args in
     with_defaults a.order.now a.at a.defaults.now a.key.now ≡ Order c.answer-1.given.0.0
-from-order c = sym c.before.before.lookup_with_defaults.ensures.0 ∙ c.answer-1.given.1
+from-order c = sym c.lookup_with_defaults.ensures.0 ∙ c.answer-1.given.1
 
-from-defaults : (c : tie.In-Defaults-2) → let a = c.before.before.before.before.before.before.args in
+from-defaults : (c : tie.In-Defaults-2) → let a = c.args in
     with_defaults a.order.now a.at a.defaults.now a.key.now ≡ Defaults c.answer-in-Defaults-1.given.0.0
-from-defaults c = sym c.before.before.lookup_with_defaults.ensures.0 ∙ c.answer-in-Defaults-1.given.1
+from-defaults c = sym c.lookup_with_defaults.ensures.0 ∙ c.answer-in-Defaults-1.given.1
 
 part-of-requires : tie.Need-part_of-requires
 part-of-requires c κs = order-inside _ _ _ _ _ (from-order c.before)

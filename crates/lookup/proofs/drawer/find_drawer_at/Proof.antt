@@ -16,7 +16,7 @@ returns : tie.Need-returns-then-to-at
 returns c = drawer-end _ _ _ c.if-to-at.true
 
 opener : (c : tie.After-line_at-opener) → let start = c.before.before.before in LineOf start.args.text.now c.line_at-opener.result start.args.to
-opener c = line_of _ _ _ _ c.before.if-to-at.false c.before.before.before.requires.1 c.line_at-opener.ensures
+opener c = line_of _ _ _ _ c.if-to-at.false c.requires.1 c.line_at-opener.ensures
 
 is-word-requires : tie.Need-is_word-requires
 is-word-requires c κs = let o = line_of-order _ _ _ (opener c.before) in (o.1, omega arith)
@@ -26,18 +26,18 @@ unfolding word
 returns-2 c =
     let at_other = c.before.before in
     let at-line = at_other.before.before.before in
-    drawer-blank_first _ _ _ _ at-line.line_at-opener.ensures at-line.before.if-to-at.false at-line.before.before.before.requires.1
-    (sym at_other.before.is_IsWord.ensures ∙ not-true _ at_other.if-not-is_word.true)
-    (sym c.before.opens_after_blanks.ensures ∙ c.if-opens_after_blanks.true)
+    drawer-blank_first _ _ _ _ at-line.line_at-opener.ensures at-line.if-to-at.false at-line.requires.1
+    (sym at_other.is_IsWord.ensures ∙ not-true _ at_other.if-not-is_word.true)
+    (sym c.opens_after_blanks.ensures ∙ c.if-opens_after_blanks.true)
 
 returns-3 : tie.Need-returns-then-not-is_word
 unfolding word
 returns-3 c =
     let at_other = c.before.before in
     let at-line = at_other.before.before.before in
-    drawer-missing _ _ _ _ at-line.line_at-opener.ensures at-line.before.if-to-at.false at-line.before.before.before.requires.1
-    (sym at_other.before.is_IsWord.ensures ∙ not-true _ at_other.if-not-is_word.true)
-    (sym c.before.opens_after_blanks.ensures ∙ c.if-opens_after_blanks.false)
+    drawer-missing _ _ _ _ at-line.line_at-opener.ensures at-line.if-to-at.false at-line.requires.1
+    (sym at_other.is_IsWord.ensures ∙ not-true _ at_other.if-not-is_word.true)
+    (sym c.opens_after_blanks.ensures ∙ c.if-opens_after_blanks.false)
 
 find-properties-end-requires : tie.Need-find_properties_end-requires
 find-properties-end-requires c κs = let o = line_of-order _ _ _ (opener c.before.before.before) in (o.4, o.5)
@@ -51,9 +51,9 @@ returns-4 c =
     let at-end = c.before.before.before in
     let at-word = at-end.before.before in
     let at-line = at-word.before.before in
-    drawer-open _ _ _ _ at-line.line_at-opener.ensures at-line.before.if-to-at.false at-line.before.before.before.requires.1
-    (sym at-word.is_IsWord.ensures ∙ not-false _ at-end.before.if-not-is_word.false)
-    (sym c.before.enum_told-1.given.1 ∙ at-end.find_properties_end.ensures)
+    drawer-open _ _ _ _ at-line.line_at-opener.ensures at-line.if-to-at.false at-line.requires.1
+    (sym at-word.is_IsWord.ensures ∙ not-false _ at-end.if-not-is_word.false)
+    (sym c.enum_told-1.given.1 ∙ at-end.find_properties_end.ensures)
     _ c.why_none.ensures
 
 returns-5 : tie.Need-returns
@@ -62,9 +62,9 @@ returns-5 c =
     let at-end = c.before.before.before in
     let at-word = at-end.before.before in
     let at-line = at-word.before.before in
-    drawer-closer _ _ _ _ at-line.line_at-opener.ensures at-line.before.if-to-at.false at-line.before.before.before.requires.1
-    (sym at-word.is_IsWord.ensures ∙ not-false _ at-end.before.if-not-is_word.false)
-    (At _ _ _) (sym c.before.start-1.given.1 ∙ at-end.find_properties_end.ensures)
+    drawer-closer _ _ _ _ at-line.line_at-opener.ensures at-line.if-to-at.false at-line.requires.1
+    (sym at-word.is_IsWord.ensures ∙ not-false _ at-end.if-not-is_word.false)
+    (At _ _ _) (sym c.start-1.given.1 ∙ at-end.find_properties_end.ensures)
 
 pub find_drawer_at_spec : {M : Type 1} → statement M
 find_drawer_at_spec =

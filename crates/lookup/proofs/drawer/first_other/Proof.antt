@@ -30,7 +30,7 @@ line : (c : tie.After-line_at-line invariant-loop-at decreases-loop-at) →
     let start = c.before.before.before.before in LineOf start.args.text.now c.line_at-line.result start.args.to
 line c =
     let at_test = c.before in
-    line_of _ _ _ _ at_test.loop-at-test.true at_test.before.before.before.requires.1 c.line_at-line.ensures
+    line_of _ _ _ _ at_test.loop-at-test.true at_test.requires.1 c.line_at-line.ensures
 
 returns : tie.Need-returns-in_default invariant-loop-at decreases-loop-at
 returns c =
@@ -38,14 +38,14 @@ returns c =
     let at-line = at-property.before in
     other-here _ _ _ _ at-line.line_at-line.ensures
     (sym (property_of-named _ _) ∙ ap is_named (sym at-property.property_at.ensures ∙ c.enum_told-in_default-1.given.1))
-    ∙ at-line.before.before.loop-at.invariant.1
+    ∙ at-line.loop-at.invariant.1
 
 -- the next line starts further on, and not past the end
 next : (c : tie.After-line_at-line invariant-loop-at decreases-loop-at) → let at-loop = c.before.before in
-    (at-loop.loop-at.at < c.line_at-line.result.end) × (c.line_at-line.result.end ≤ at-loop.before.before.args.to)
+    (at-loop.loop-at.at < c.line_at-line.result.end) × (c.line_at-line.result.end ≤ at-loop.args.to)
 next c =
     let at_test = c.before in
-    line_span-next _ _ _ _ c.line_at-line.ensures at_test.loop-at-test.true at_test.before.before.before.requires.1
+    line_span-next _ _ _ _ c.line_at-line.ensures at_test.loop-at-test.true at_test.requires.1
 
 loop-again : tie.Need-loop-at-preserved invariant-loop-at decreases-loop-at
 loop-again c =
@@ -54,11 +54,11 @@ loop-again c =
       (next at-line).1,
       other-next _ _ _ _ at-line.line_at-line.ensures
           (sym (property_of-named _ _) ∙ ap is_named (sym at-property.property_at.ensures ∙ c.enum_told-1.given.1))
-          ∙ at-line.before.before.loop-at.invariant.1,
+          ∙ at-line.loop-at.invariant.1,
     )
 
 returns-2 : tie.Need-returns invariant-loop-at decreases-loop-at
-returns-2 c = sym (past-none is_node_property _ _ _ c.loop-at-test.false) ∙ c.before.loop-at.invariant.1
+returns-2 c = sym (past-none is_node_property _ _ _ c.loop-at-test.false) ∙ c.loop-at.invariant.1
 
 pub first_other_spec : {M : Type 1} → statement M
 first_other_spec =

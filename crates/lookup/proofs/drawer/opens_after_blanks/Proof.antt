@@ -11,11 +11,11 @@ use Rattle.lookup.proofs.drawer.opens_after_blanks.Statement.{statement}
 use Rattle.lookup.proofs.drawer.opens_after_blanks.Tie as tie
 
 returns : tie.Need-returns-then-to-first
-returns c = after_none _ _ _ _ c.before.before.first_line-first.ensures.0 c.if-to-first.true
+returns c = after_none _ _ _ _ c.first_line-first.ensures.0 c.if-to-first.true
 
 -- the line there
-line : (c : tie.After-line_at-line) → let a = c.before.before.before.before.before.args in LineOf a.text.now c.line_at-line.result a.to
-line c = line_of _ _ _ _ c.before.if-to-first.false c.before.before.before.before.before.requires.1 c.line_at-line.ensures
+line : (c : tie.After-line_at-line) → let a = c.args in LineOf a.text.now c.line_at-line.result a.to
+line c = line_of _ _ _ _ c.if-to-first.false c.requires.1 c.line_at-line.ensures
 
 is-word-requires : tie.Need-is_word-requires
 is-word-requires c κs = let o = line_of-order _ _ _ (line c.before) in (o.1, omega arith)
@@ -26,7 +26,7 @@ returns-2 c =
     let at-line = c.before.before in
     let at_first = at-line.before.before.before in
     c.is_IsWord.ensures
-    ∙ after-opener _ _ _ _ at_first.first_line-first.ensures.0 _ at-line.line_at-line.ensures at-line.before.if-to-first.false at_first.before.before.requires.1
+    ∙ after-opener _ _ _ _ at_first.first_line-first.ensures.0 _ at-line.line_at-line.ensures at-line.if-to-first.false at_first.requires.1
 
 pub opens_after_blanks_spec : {M : Type 1} → statement M
 opens_after_blanks_spec =

@@ -33,11 +33,11 @@ returns c = answers _ _ _ _ (lookup-long _ _ _ (omega arith))
 returns-2 : tie.Need-returns-then-is_bad_key
 returns-2 c =
     let at_key = c.before in
-    answers _ _ _ _ (lookup-bad _ _ _ at_key.before.if-text-gt-TEXT.false (sym at_key.is_bad_key.ensures ∙ c.if-is_bad_key.true))
+    answers _ _ _ _ (lookup-bad _ _ _ at_key.if-text-gt-TEXT.false (sym at_key.is_bad_key.ensures ∙ c.if-is_bad_key.true))
 
 -- the text is not too long, and the key is good
-tried : (c : tie.Else-is_bad_key) → let a = c.before.before.before.before.before.args in Tried a.text.now a.key.now
-tried c = let at_key = c.before in record { text = at_key.before.if-text-gt-TEXT.false; key = sym at_key.is_bad_key.ensures ∙ c.if-is_bad_key.false }
+tried : (c : tie.Else-is_bad_key) → let a = c.args in Tried a.text.now a.key.now
+tried c = let at_key = c.before in record { text = at_key.if-text-gt-TEXT.false; key = sym at_key.is_bad_key.ensures ∙ c.if-is_bad_key.false }
 
 returns-3 : tie.Need-returns-in_default
 returns-3 c =
@@ -45,9 +45,9 @@ returns-3 c =
     answers _ _ _ _ (lookup-no_heading _ _ _ (tried at-heading.before) (sym at-heading.find_heading.ensures ∙ c.enum_told-1.given.1))
 
 -- the heading line
-heading : (c : tie.In-Before-2) → let a = c.before.before.before.before.before.before.before.before.args in
+heading : (c : tie.In-Before-2) → let a = c.args in
     heading_at a.text.now a.at ≡ Before c.inner-1.given.0.0
-heading c = sym c.before.before.find_heading.ensures ∙ c.inner-1.given.1
+heading c = sym c.find_heading.ensures ∙ c.inner-1.given.1
 
 find-drawer-requires : tie.Need-find_drawer-drawer-requires
 find-drawer-requires c κs = heading_at-to _ _ _ (heading c.before)
@@ -70,13 +70,13 @@ returns-4 c =
     let at_inner = at-drawer.before.before in
     let d = at-drawer.find_drawer-drawer.result in
     answers _ _ _ _ (lookup-drawer _ _ _ (tried at_inner.before.before.before) _ (heading at_inner) d (sym at-drawer.find_drawer-drawer.ensures)
-    ∙ refused d _ _ c.before.in-Lines.keys2 ∙ sym c.no_drawer.ensures)
+    ∙ refused d _ _ c.in-Lines.keys2 ∙ sym c.no_drawer.ensures)
 
 -- its property drawer
 drawer : (c : tie.In-Lines-2) → let at_inner = c.before.before.before.before in
-    drawer_after at_inner.before.before.before.before.before.before.before.before.args.text.now at_inner.inner-1.given.0.0
+    drawer_after at_inner.args.text.now at_inner.inner-1.given.0.0
     ≡ Lines c.drawer-1.given.0.0 c.drawer-1.given.0.1.0
-drawer c = sym c.before.before.find_drawer-drawer.ensures ∙ c.drawer-1.given.1
+drawer c = sym c.find_drawer-drawer.ensures ∙ c.drawer-1.given.1
 
 find-value-requires : tie.Need-find_value-requires
 find-value-requires c κs =
@@ -99,7 +99,7 @@ returns-6 c =
     let at-lines = at_value.before.before in
     let at_inner = at-lines.before.before.before.before in
     answers _ _ _ _ (lookup-found _ _ _ (tried at_inner.before.before.before) _ (heading at_inner) _ _ (drawer at-lines) _ _
-    (sym at_value.find_value.ensures ∙ c.before.start-1.given.1))
+    (sym at_value.find_value.ensures ∙ c.start-1.given.1))
 
 pub lookup_spec : {M : Type 1} → statement M
 lookup_spec =

@@ -37,10 +37,10 @@ returns-2 : tie.Need-returns-in-NotClosed
 returns-2 c = told _ NotClosed _ c.enum_told-in-NotClosed-1.given.1 refl
 
 returns-3 : tie.Need-returns-in-NotProperty
-returns-3 c = told _ (NotProperty _) _ c.before.drawer-1.given.1 refl
+returns-3 c = told _ (NotProperty _) _ c.drawer-1.given.1 refl
 
 returns-4 : tie.Need-returns-in_default
-returns-4 c = other c.before.args.drawer-1 c.in-BlankFirst.keys4
+returns-4 c = other c.args.drawer-1 c.in-BlankFirst.keys4
 
 pub no_drawer_spec : {M : Type 1} → statement M
 no_drawer_spec =

@@ -30,13 +30,13 @@ refused NoKey s q h = (refl, refl)
 refused BadKey s q h = (refl, refl)
 
 returns : tie.Need-returns-in_default
-returns c = let a = c.before.before.args in refused a.answer-1 a.text.now a.text.ref_ptr c.before.in-Found.keys2
+returns c = let a = c.args in refused a.answer-1 a.text.now a.text.ref_ptr c.in-Found.keys2
 
-inside : (c : tie.In-Found-2) → Inside c.before.before.args.text.now (Found c.answer-1.given.0.0 c.answer-1.given.0.1.0)
-inside c = rw c.answer-1.given.1 at c.before.before.requires
+inside : (c : tie.In-Found-2) → Inside c.args.text.now (Found c.answer-1.given.0.0 c.answer-1.given.0.1.0)
+inside c = rw c.answer-1.given.1 at c.requires
 
 returns-2 : tie.Need-returns
-returns-2 c = let found = c.before.before.answer-1.given.1 in (rw found, rw found)
+returns-2 c = let found = c.answer-1.given.1 in (rw found, rw found)
 
 pub part_of_spec : {M : Type 1} → statement M
 part_of_spec =

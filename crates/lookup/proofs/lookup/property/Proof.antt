@@ -9,7 +9,7 @@ part-of-requires : tie.Need-part_of-requires
 part-of-requires c κs = rw c.lookup.ensures.0 (lookup-inside _ _ _)
 
 returns : tie.Need-returns
-returns c = rw (← c.before.lookup.ensures.0) c.part_of.ensures
+returns c = rw (← c.lookup.ensures.0) c.part_of.ensures
 
 pub property_spec : {M : Type 1} → statement M
 property_spec = tie.close (tie.spec (λ c κs. search rules) part-of-requires returns)

@@ -16,12 +16,12 @@ returns c = sym (planning-long _ _ (omega arith))
 returns-2 : tie.Need-returns-in_default
 returns-2 c =
     let at-find-heading = c.before.before in
-    sym (planning-no_heading _ _ at-find-heading.before.if-text-gt-TEXT.false (sym at-find-heading.find_heading.ensures ∙ c.enum_told-1.given.1))
+    sym (planning-no_heading _ _ at-find-heading.if-text-gt-TEXT.false (sym at-find-heading.find_heading.ensures ∙ c.enum_told-1.given.1))
 
 line-after-requires : tie.Need-line_after-body-requires
 line-after-requires c κs =
     let at_inner = c.before in
-    let heading = sym at_inner.before.before.find_heading.ensures ∙ at_inner.inner-1.given.1 in
+    let heading = sym at_inner.find_heading.ensures ∙ at_inner.inner-1.given.1 in
     heading_at-to _ _ _ heading
 
 read-planning-requires : tie.Need-read_planning-requires
@@ -29,13 +29,13 @@ read-planning-requires c κs = let b = c.line_after-body.ensures in omega (arith
 
 returns-3 : tie.Need-returns
 returns-3 c =
-    let line = c.before.line_after-body in
+    let line = c.line_after-body in
     let at_inner = c.before.before.before in
     let at-find-heading = at_inner.before.before in
     let heading = sym at-find-heading.find_heading.ensures ∙ at_inner.inner-1.given.1 in
-    let s = at-find-heading.before.before.before.args.text.now in
+    let s = at-find-heading.args.text.now in
     let stamps : c.read_planning.result ≡ planning_stamps (part s line.result.from line.result.to) = c.read_planning.ensures in
-    rw (planning-found _ _ at-find-heading.before.if-text-gt-TEXT.false _ heading, stamps, line.ensures.is)
+    rw (planning-found _ _ at-find-heading.if-text-gt-TEXT.false _ heading, stamps, line.ensures.is)
 
 pub planning_spec : {M : Type 1} → statement M
 planning_spec =

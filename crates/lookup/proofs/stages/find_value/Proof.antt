@@ -24,26 +24,26 @@ line : (c : tie.After-line_at-line invariant-loop-at decreases-loop-at) →
     let start = c.before.before.before.before.before in LineOf start.args.text.now c.line_at-line.result start.args.to
 line c =
     let at_test = c.before in
-    line_of _ _ _ _ at_test.loop-at-test.true at_test.before.before.before.before.requires.1 c.line_at-line.ensures
+    line_of _ _ _ _ at_test.loop-at-test.true at_test.requires.1 c.line_at-line.ensures
 
 -- the next line starts further on, and not past the end
 next : (c : tie.After-line_at-line invariant-loop-at decreases-loop-at) → let at-loop = c.before.before in
-    (at-loop.loop-at.at < c.line_at-line.result.end) × (c.line_at-line.result.end ≤ at-loop.before.before.before.args.to)
+    (at-loop.loop-at.at < c.line_at-line.result.end) × (c.line_at-line.result.end ≤ at-loop.args.to)
 next c =
     let at_test = c.before in
-    line_span-next _ _ _ _ c.line_at-line.ensures at_test.loop-at-test.true at_test.before.before.before.before.requires.1
+    line_span-next _ _ _ _ c.line_at-line.ensures at_test.loop-at-test.true at_test.requires.1
 
 -- the line's name and its marker
 named : (c : tie.In-Named-2 invariant-loop-at decreases-loop-at) → let at-line = c.before.before.before in
     let start = at-line.before.before.before.before.before in
     let l = at-line.line_at-line.result in
     Named c.name-1.given.0.0 c.name-1.given.0.1.0 ≡ property_of l.start (line_in start.args.text.now l.start start.args.to)
-named c = sym c.name-1.given.1 ∙ c.before.before.property_at.ensures
+named c = sym c.name-1.given.1 ∙ c.property_at.ensures
 
 order : (c : tie.In-Named-2 invariant-loop-at decreases-loop-at) → let at-line = c.before.before.before in
     let l = at-line.line_at-line.result in
     (l.from + 1 ≤ c.name-1.given.0.0) × (c.name-1.given.0.0 ≤ c.name-1.given.0.1.0) × (c.name-1.given.0.1.0 ≤ l.to)
-    × (l.to ≤ length at-line.before.before.before.before.before.args.text.now)
+    × (l.to ≤ length at-line.args.text.now)
 order c = name-order _ _ _ _ _ (line c.before.before.before) (named c)
 
 returns : tie.Need-returns-then-is_word invariant-loop-at decreases-loop-at
@@ -54,8 +54,8 @@ returns c =
     let at_test = at-line.before in
     let start = at_test.before.before.before.before in
     value-here _ _ _ _ _ at-line.line_at-line.ensures at_test.loop-at-test.true start.requires.1 _ _ (named at_name)
-    (sym at-word.is_IsWord.ensures ∙ c.before.if-is_word.true) _ c.run_end.ensures
-    ∙ at_test.before.loop-at.invariant.1
+    (sym at-word.is_IsWord.ensures ∙ c.if-is_word.true) _ c.run_end.ensures
+    ∙ at_test.loop-at.invariant.1
 
 loop-again : tie.Need-loop-at-preserved-else-is_word invariant-loop-at decreases-loop-at
 loop-again c =
@@ -67,7 +67,7 @@ loop-again c =
       (next at-line).1,
       value-other _ _ _ _ _ at-line.line_at-line.ensures at_test.loop-at-test.true start.requires.1 _ _ (named at_name)
           (sym at-word.is_IsWord.ensures ∙ c.if-is_word.false)
-          ∙ at_test.before.loop-at.invariant.1,
+          ∙ at_test.loop-at.invariant.1,
     )
 
 loop-again-2 : tie.Need-loop-at-preserved invariant-loop-at decreases-loop-at
@@ -79,11 +79,11 @@ loop-again-2 c =
       (next at-line).1,
       value-unnamed _ _ _ _ _ at-line.line_at-line.ensures at_test.loop-at-test.true start.requires.1 start.requires.2
           (sym c.enum_told-1.given.1 ∙ at-property.property_at.ensures)
-          ∙ at_test.before.loop-at.invariant.1,
+          ∙ at_test.loop-at.invariant.1,
     )
 
 returns-2 : tie.Need-returns invariant-loop-at decreases-loop-at
-returns-2 c = value_none _ _ _ _ c.loop-at-test.false ∙ c.before.loop-at.invariant.1
+returns-2 c = value_none _ _ _ _ c.loop-at-test.false ∙ c.loop-at.invariant.1
 
 pub find_value_spec : {M : Type 1} → statement M
 find_value_spec =

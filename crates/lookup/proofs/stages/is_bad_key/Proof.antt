@@ -12,12 +12,12 @@ returns : tie.Need-returns-then-size-eq0
 returns c = sym (⊎_elim (λ w. is_bad_key-empty _ w.taken) (λ w. is_bad_key-long _ (ltb-true 64 _ w.1.taken)) c.if-size-eq0.branch)
 
 returns-2 : tie.Need-returns-then-word_end-size
-returns-2 c = sym (is_bad_key-blank _ _ c.before.word_end.ensures (omega arith))
+returns-2 c = sym (is_bad_key-blank _ _ c.word_end.ensures (omega arith))
 
 returns-3 : tie.Need-returns
 returns-3 c =
     let at-run = c.before.before in
-    sym (is_bad_key-last _ _ at-run.word_end.ensures (omega arith) (ltb-false 64 _ at-run.before.if-size-gt-KEY.false) (omega arith))
+    sym (is_bad_key-last _ _ at-run.word_end.ensures (omega arith) (ltb-false 64 _ at-run.if-size-gt-KEY.false) (omega arith))
 
 pub is_bad_key_spec : {M : Type 1} → statement M
 is_bad_key_spec =

@@ -24,14 +24,14 @@ moved : (c : tie.In-More-2 invariant-loop-used decreases-loop-used) → let at =
     (0 < c.step-1.given.0.0) × (c.step-1.given.0.0 ≤ length at.loop-used.buffer-1 - at.loop-used.used)
 moved c =
     let read = c.before.before.before.before in
-    rw read.before.read_step-arg-1.given.2 at (more_within _ _ _ c.step-1.given.1 read.Read-step.ensures)
+    rw read.read_step-arg-1.given.2 at (more_within _ _ _ c.step-1.given.1 read.Read-step.ensures)
 
 same_length : tie.Need-shape_of-buffer-in_default invariant-loop-used decreases-loop-used
-same_length c = c.before.before.before.buffer-1.given.1 ∙ c.before.before.before.before.before.before.before.loop-used.invariant.1
+same_length c = c.buffer-1.given.1 ∙ c.loop-used.invariant.1
 
 returns : tie.Need-returns-in_default invariant-loop-used decreases-loop-used
 returns c =
-    let inv = c.before.before.before.before.before.before.before.loop-used.invariant in
+    let inv = c.loop-used.invariant in
     let fits = rw inv.1 at inv.0 in
     input-within _ _ _ _ c.Input-of.ensures fits
 
@@ -41,18 +41,18 @@ add-used c = let f = moved c.before in omega arith
 loop-less : tie.Need-loop-used-smaller invariant-loop-used decreases-loop-used
 loop-less c =
     let f = moved c.before in
-    let same = c.before.before.before.before.buffer-1.given.1 in
+    let same = c.buffer-1.given.1 in
     omega arith
 
 loop-again : tie.Need-loop-used-preserved invariant-loop-used decreases-loop-used
 loop-again c =
     let f = moved c.before in
-    let same = c.before.before.before.before.buffer-1.given.1 in
-    (omega arith, same ∙ c.before.before.before.before.before.before.before.before.loop-used.invariant.1)
+    let same = c.buffer-1.given.1 in
+    (omega arith, same ∙ c.loop-used.invariant.1)
 
 returns-2 : tie.Need-returns invariant-loop-used decreases-loop-used
 returns-2 c =
-    let inv = c.before.before.before.before.before.loop-used.invariant in
+    let inv = c.loop-used.invariant in
     let fits = rw inv.1 at inv.0 in
     input-within _ _ _ _ c.input_of-2.ensures fits
 

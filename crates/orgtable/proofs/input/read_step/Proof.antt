@@ -6,7 +6,7 @@ use Rattle.orgtable.proofs.input.read_step.Statement.{statement}
 use Rattle.orgtable.proofs.input.read_step.Tie as tie
 
 returns : tie.Need-returns
-returns c = step-within _ _ _ _ c.step_of_lem.ensures c.before.before.before.before.read-got.auto.1.0
+returns c = step-within _ _ _ _ c.step_of_lem.ensures c.read-got.auto.1.0
 
 pub read_step_spec : {M : Type 1} → statement M
 read_step_spec = tie.close (tie.spec (λ c κs. search rules) (λ c κs. search rules) (λ c. search rules) returns)

@@ -17,13 +17,13 @@ returns-2 : tie.Need-returns-then-count-eq0
 returns-2 c =
     let start = c.before.before.before.before in
     let same = to_z-of_z w64 start.args.got start.ranges.got in
-    no_bytes _ c.if-count-eq0.true ∙ counted_step _ _ _ (rw same at c.before.before.if-got-lt0.false) (rw same at c.before.count-count.ensures.1)
+    no_bytes _ c.if-count-eq0.true ∙ counted_step _ _ _ (rw same at c.if-got-lt0.false) (rw same at c.count-count.ensures.1)
 
 returns-3 : tie.Need-returns
 returns-3 c =
     let start = c.before.before.before.before in
     let same = to_z-of_z w64 start.args.got start.ranges.got in
-    some_bytes _ c.if-count-eq0.false ∙ counted_step _ _ _ (rw same at c.before.before.if-got-lt0.false) (rw same at c.before.count-count.ensures.1)
+    some_bytes _ c.if-count-eq0.false ∙ counted_step _ _ _ (rw same at c.if-got-lt0.false) (rw same at c.count-count.ensures.1)
 
 pub step_of_spec : {M : Type 1} → statement M
 step_of_spec = tie.close (tie.spec returns (λ c κs. search rules) returns-2 returns-3)

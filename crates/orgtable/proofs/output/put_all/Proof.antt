@@ -23,10 +23,10 @@ loop-holds c = (omega arith, refl, omega arith, sym (append-nil _))
 
 loop-again : tie.Need-loop-i-preserved invariant-loop-i decreases-loop-i
 loop-again c =
-    let put = c.before.before.put-at in
+    let put = c.put-at in
     let at_test = c.before.before.before.before.before in
     let h = at_test.loop-i-test.true in
-    let inv = at_test.before.loop-i.invariant in
+    let inv = at_test.loop-i.invariant in
     let start = at_test.before.before.before.before in (
       omega arith,
       put.auto.0 ∙ inv.1,
@@ -36,7 +36,7 @@ loop-again c =
 
 returns : tie.Need-returns invariant-loop-i decreases-loop-i
 returns c =
-    let inv = c.before.loop-i.invariant in
+    let inv = c.loop-i.invariant in
     (rw (take_all _ _ c.loop-i-test.false) at inv.3, omega arith)
 
 pub put_all_spec : {M : Type 1} → statement M
@@ -51,5 +51,5 @@ put_all_spec =
     (λ c. omega arith)
     (λ c. omega arith)
     loop-again
-    (λ c. c.before.loop-i.invariant.1)
+    (λ c. c.loop-i.invariant.1)
     returns)

@@ -19,13 +19,13 @@ returns : tie.Need-returns-in-Bytes
 unfolding printed_input
 returns c =
     let at-put = c.before.before.before.before in
-    (rw at-put.before.before.before.before.before.input-1.given.1 at-put.put_reading.ensures.0, omega arith)
+    (rw at-put.input-1.given.1 at-put.put_reading.ensures.0, omega arith)
 
 returns-2 : tie.Need-returns-in-TooLong
 unfolding printed_input
 returns-2 c =
     let at-put = c.before.before in
-    (rw at-put.before.before.enum_told-1.given.1 at-put.put_refusal.ensures.0, omega arith)
+    (rw at-put.enum_told-1.given.1 at-put.put_refusal.ensures.0, omega arith)
 
 returns-3 : tie.Need-returns-in-Failed
 unfolding printed_input

@@ -25,7 +25,7 @@ decreases-loop-i out₀ used table at end₀ i₀ out end i = at + record_size -
 
 loop-again : tie.Need-loop-i-preserved invariant-loop-i decreases-loop-i
 loop-again c =
-    let put = c.before.before.put_cell-end in
+    let put = c.put_cell-end in
     let at-loop = c.before.before.before.before.before.before in
     let inv = at-loop.loop-i.invariant in
     let start = at-loop.before.before.before in (
@@ -38,14 +38,14 @@ loop-again c =
     )
 
 same_length : tie.Need-shape_of-out invariant-loop-i decreases-loop-i
-same_length c = c.before.before.put_cell.auto.0 ∙ c.before.before.before.before.before.before.loop-i.invariant.2
+same_length c = c.put_cell.auto.0 ∙ c.loop-i.invariant.2
 
 returns : tie.Need-returns invariant-loop-i decreases-loop-i
 returns c =
     let at-loop = c.before.before.before.before.before.before in
     let start = at-loop.before.before.before in (
       line-end start.args.table.now at-loop.loop-i.i (start.args.at + record_size)
-          (take at-loop.loop-i.end at-loop.loop-i.out-1) _ _ at-loop.loop-i.invariant.4 (omega arith) (omega arith) c.before.before.put_cell.ensures.0,
+          (take at-loop.loop-i.end at-loop.loop-i.out-1) _ _ at-loop.loop-i.invariant.4 (omega arith) (omega arith) c.put_cell.ensures.0,
       omega arith,
     )
 

@@ -9,13 +9,13 @@ use Rattle.orgtable.proofs.output.put_need.Tie as tie
 
 put-number-requires : tie.Need-put_number-used-requires
 put-number-requires c κs =
-    let few = decimal-length 19 c.before.before.before.before.before.before.before.before.before.before.args.count (omega arith) in
+    let few = decimal-length 19 c.args.count (omega arith) in
     omega arith
 
 put-requires-2 : tie.Need-put-requires
 put-requires-2 c κs =
     let at-put = c.before.before.before.before.before.before.before in
-    let few = decimal-length 19 at-put.before.before.before.before.before.before.before.args.count (omega arith) in
+    let few = decimal-length 19 at-put.args.count (omega arith) in
     omega arith
 
 returns : tie.Need-returns
@@ -23,9 +23,9 @@ returns c =
     let at_count = c.before.before.before.before.before.before in
     let at-space = at_count.before.before.before.before in
     let at-number = at-space.before.before.before.before in
-    let few = decimal-length 19 at-number.before.before.before.args.count (omega arith) in (
+    let few = decimal-length 19 at-number.args.count (omega arith) in (
       refused-with _ _ _ _ _ _ at-number.Put-refused.ensures.0 at-space.put-spaced.ensures.0 at_count.put_number-used.ensures.0
-          c.before.before.put.ensures.0,
+          c.put.ensures.0,
       omega arith,
     )
 

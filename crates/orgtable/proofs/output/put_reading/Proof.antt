@@ -9,7 +9,7 @@ use Rattle.orgtable.proofs.output.put_reading.Tie as tie
 
 put-answer-requires : tie.Need-put_answer-requires
 put-answer-requires c κs =
-    let fits = settled-shown _ _ _ _ c.before.before.before.before.read-answer.ensures in
+    let fits = settled-shown _ _ _ _ c.read-answer.ensures in
     omega arith
 
 returns : tie.Need-returns

@@ -9,15 +9,15 @@ use Rattle.orgtable.proofs.output.put_refused.Tie as tie
 
 put-number-requires : tie.Need-put_number-requires
 put-number-requires c κs =
-    let few = decimal-length 19 c.before.before.before.before.before.before.before.args.number (omega arith) in
+    let few = decimal-length 19 c.args.number (omega arith) in
     omega arith
 
 returns : tie.Need-returns
 unfolding word
 returns c =
     let at-word = c.before.before.before.before.before.before in
-    let few = decimal-length 19 at-word.before.before.before.before.args.number (omega arith) in
-    (rw at-word.put_all_lem.ensures.0 at c.before.before.put_number.ensures.0, omega arith)
+    let few = decimal-length 19 at-word.args.number (omega arith) in
+    (rw at-word.put_all_lem.ensures.0 at c.put_number.ensures.0, omega arith)
 
 pub put_refused_spec : {M : Type 1} → statement M
 put_refused_spec = tie.close (tie.spec (λ c. search rules) (λ c κs. search rules) put-number-requires (λ c. search rules) returns)

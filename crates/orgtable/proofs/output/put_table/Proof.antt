@@ -24,7 +24,7 @@ decreases-loop-i out₀ table count used₀ i₀ out used i = count - i
 
 loop-again : tie.Need-loop-i-preserved invariant-loop-i decreases-loop-i
 loop-again c =
-    let put = c.before.before.put_line-used in
+    let put = c.put_line-used in
     let at-loop = c.before.before.before.before.before in
     let inv = at-loop.loop-i.invariant in
     let start = at-loop.before.before.before in (
@@ -53,5 +53,5 @@ put_table_spec =
     (λ c. omega arith)
     (λ c. omega arith)
     loop-again
-    (λ c. c.before.loop-i.invariant.1)
+    (λ c. c.loop-i.invariant.1)
     returns)

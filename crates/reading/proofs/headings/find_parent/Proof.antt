@@ -17,36 +17,36 @@ abbrev decreases-loop-at : tie.decreases-loop-at
 decreases-loop-at table from stars at₀ at = at
 
 returns : tie.Need-returns-then-table-row invariant-loop-at decreases-loop-at
-returns c = (sym (parent_short _ _ _ c.if-table-row.true) ∙ c.before.before.loop-at.invariant.1, omega arith)
+returns c = (sym (parent_short _ _ _ c.if-table-row.true) ∙ c.loop-at.invariant.1, omega arith)
 
 cast-if2 : tie.Need-overflow-cast-if2 invariant-loop-at decreases-loop-at
-cast-if2 c = omega (arith, c.shared_slice_known-1.given (c.before.before.before.loop-at.at * record_size + detail_place))
+cast-if2 c = omega (arith, c.shared_slice_known-1.given (c.loop-at.at * record_size + detail_place))
 
 returns-2 : tie.Need-returns-then-table-row-2 invariant-loop-at decreases-loop-at
 returns-2 c =
     let at_row = c.before.before in
     let at_test = at_row.before in
-    (sym (parent-here _ _ _ at_test.loop-at-test.true at_row.if-table-row.false c.if-table-row-2.true) ∙ at_test.before.loop-at.invariant.1, omega arith)
+    (sym (parent-here _ _ _ at_test.loop-at-test.true at_row.if-table-row.false c.if-table-row-2.true) ∙ at_test.loop-at.invariant.1, omega arith)
 
 cast-parent : tie.Need-overflow-cast-parent invariant-loop-at decreases-loop-at
-cast-parent c = omega (arith, c.shared_slice_known-in-loop-at-1.given (c.before.before.before.before.before.loop-at.at * record_size + parent_place))
+cast-parent c = omega (arith, c.shared_slice_known-in-loop-at-1.given (c.loop-at.at * record_size + parent_place))
 
 returns-3 : tie.Need-returns-then-at-parent invariant-loop-at decreases-loop-at
 returns-3 c =
     let at-stars = c.before.before in
     let at_row = at-stars.before.before in
-    (sym (parent-stuck _ _ _ at_row.if-table-row.false at-stars.if-table-row-2.false c.if-at-parent.true) ∙ at_row.before.before.loop-at.invariant.1, omega arith)
+    (sym (parent-stuck _ _ _ at_row.if-table-row.false at-stars.if-table-row-2.false c.if-at-parent.true) ∙ at_row.loop-at.invariant.1, omega arith)
 
 loop-again : tie.Need-loop-at-preserved invariant-loop-at decreases-loop-at
 loop-again c =
     let at-stars = c.before.before in
     let at_row = at-stars.before.before in
-    (omega arith, sym (parent-step _ _ _ at_row.if-table-row.false at-stars.if-table-row-2.false c.if-at-parent.false) ∙ at_row.before.before.loop-at.invariant.1)
+    (omega arith, sym (parent-step _ _ _ at_row.if-table-row.false at-stars.if-table-row-2.false c.if-at-parent.false) ∙ at_row.loop-at.invariant.1)
 
 returns-4 : tie.Need-returns invariant-loop-at decreases-loop-at
 returns-4 c =
-    let none : c.before.loop-at.at ≡ 0 = omega arith in
-    (none ∙ sym (parent-zero _ _) ∙ (rw none at c.before.loop-at.invariant.1), omega arith)
+    let none : c.loop-at.at ≡ 0 = omega arith in
+    (none ∙ sym (parent-zero _ _) ∙ (rw none at c.loop-at.invariant.1), omega arith)
 
 pub find_parent_spec : {M : Type 1} → statement M
 find_parent_spec =

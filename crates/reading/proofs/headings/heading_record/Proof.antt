@@ -13,7 +13,7 @@ use Rattle.reading.proofs.headings.heading_record.Statement.{statement}
 use Rattle.reading.proofs.headings.heading_record.Tie as tie
 
 next-heading-requires : tie.Need-next_heading-end-requires
-next-heading-requires c κs = (heading_line-order c.before.before.requires.0).2
+next-heading-requires c κs = (heading_line-order c.requires.0).2
 
 returns : tie.Need-returns
 returns c =

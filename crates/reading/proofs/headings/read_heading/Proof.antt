@@ -28,7 +28,7 @@ use Rattle.reading.proofs.headings.read_heading.Tie as tie
 
 next-heading-requires : tie.Need-next_heading-next-requires
 next-heading-requires c κs =
-    let pre = c.before.before.before.before.requires in
+    let pre = c.requires in
     (heading-line _ _ pre.0 pre.1 _ c.line_end-inner.ensures).1
 
 -- the heading line
@@ -39,14 +39,14 @@ module _ (c : tie.After-next_heading-next) where
   abbrev s : List ℕ
   s = start.args.text.now
 
-  line : HeadingLine s start.args.at c.before.line_end-inner.result c.next_heading-next.result c.before.before.heading_stars-stars.result
+  line : HeadingLine s start.args.at c.line_end-inner.result c.next_heading-next.result c.heading_stars-stars.result
   line =
-      let inner = heading-line s _ start.pre.0 start.pre.1 _ c.before.line_end-inner.ensures in
+      let inner = heading-line s _ start.pre.0 start.pre.1 _ c.line_end-inner.ensures in
       record {
         here = start.pre.0;
         some = start.pre.1;
-        stars = c.before.before.heading_stars-stars.ensures;
-        end = c.before.line_end-inner.ensures;
+        stars = c.heading_stars-stars.ensures;
+        end = c.line_end-inner.ensures;
         next = c.next_heading-next.ensures ∙ next_line-up_to s (length s) _ inner.1 (omega arith);
       }
 
@@ -54,14 +54,14 @@ module _ (c : tie.After-next_heading-next) where
   number_small : start.args.number ≤ text_limit
   number_small = omega (arith, start.pre.4, line_number-le s start.args.at, start.pre.0.limit, start.pre.1)
 
-  inner-line : c.before.line_end-inner.result < length s → start.args.number + 1 ≡ line_number s c.before.line_end-inner.result
-  inner-line i = ap (λ (k : ℕ). k + 1) start.pre.4 ∙ (sym (line_number-next s _ (length s) _ start.pre.1 (omega arith) c.before.line_end-inner.ensures i))
+  inner-line : c.line_end-inner.result < length s → start.args.number + 1 ≡ line_number s c.line_end-inner.result
+  inner-line i = ap (λ (k : ℕ). k + 1) start.pre.4 ∙ (sym (line_number-next s _ (length s) _ start.pre.1 (omega arith) c.line_end-inner.ensures i))
 
 heading-record-requires : tie.Need-heading_record-r-requires
 heading-record-requires c κs = let at_next = c.before.before in (line at_next, (start at_next).requires.2, (start at_next).requires.4)
 
 emit-requires : tie.Need-emit-out-requires
-emit-requires c κs = (on c.before.if-sink.branch (λ w. rw w.3 w.2.ensures.1) (λ w. rw w.2 w.1.ensures), omega arith)
+emit-requires c κs = (on c.if-sink.branch (λ w. rw w.3 w.2.ensures.1) (λ w. rw w.2 w.1.ensures), omega arith)
 
 read-section-requires : tie.Need-read_section-section-requires
 read-section-requires c κs =
@@ -97,7 +97,7 @@ module _ (c : tie.After-emit-out) where
       let l = line at_next in
       let many = heading-stars _ _ l.here l.some _ l.stars in
       c.emit-out.ensures.0
-      ∙ on c.before.before.if-sink.branch
+      ∙ on c.if-sink.branch
       (λ w. ap (λ (r : Record). absorb st (entry r 0)) (w.3 ∙ w.2.ensures.0) ∙ tracked-heading tracked (s at_next) _ _ (λ i. cc))
       (λ w. absorb-any st _ _ 0 w.0.left)
 

@@ -42,7 +42,7 @@ decreases-loop-at text from number before table₀ end at₀ n₀ last₀ out₀
 
 loop-holds : tie.Need-loop-at-init invariant-loop-at decreases-loop-at
 loop-holds c =
-    let pre = c.before.before.requires in
+    let pre = c.requires in
     record {
       here = pre.0;
       line = pre.3;
@@ -54,17 +54,17 @@ loop-holds c =
 
 read-heading-requires : tie.Need-read_heading-turn-requires invariant-loop-at decreases-loop-at
 read-heading-requires c κs =
-    let inv = c.before.before.loop-at.invariant in
-    (inv.here, c.before.loop-at-test.true, inv.small, inv.count, inv.line c.before.loop-at-test.true)
+    let inv = c.loop-at.invariant in
+    (inv.here, c.loop-at-test.true, inv.small, inv.count, inv.line c.loop-at-test.true)
 
 loop-less : tie.Need-loop-at-smaller invariant-loop-at decreases-loop-at
-loop-less c = omega (arith, c.before.before.before.read_heading-turn.ensures.0)
+loop-less c = omega (arith, c.read_heading-turn.ensures.0)
 
 loop-again : tie.Need-loop-at-preserved invariant-loop-at decreases-loop-at
 loop-again c =
     let at-heading = c.before.before.before in
     let at_test = at-heading.before.before in
-    let loop = at_test.before.loop-at in
+    let loop = at_test.loop-at in
     let some = at_test.loop-at-test.true in
     let (less, next, count, line) = at-heading.read_heading-turn.ensures.0 in
     record {
@@ -85,7 +85,7 @@ loop-again c =
     }
 
 returns : tie.Need-returns invariant-loop-at decreases-loop-at
-returns c = λ hs index tracked. headings-none _ _ _ _ c.loop-at-test.false ∙ (c.before.loop-at.invariant.way hs index tracked).same
+returns c = λ hs index tracked. headings-none _ _ _ _ c.loop-at-test.false ∙ (c.loop-at.invariant.way hs index tracked).same
 
 pub read_headings_spec : {M : Type 1} → statement M
 read_headings_spec =
@@ -97,5 +97,5 @@ read_headings_spec =
     read-heading-requires
     loop-less
     loop-again
-    (λ c. c.before.loop-at.invariant.size)
+    (λ c. c.loop-at.invariant.size)
     returns)

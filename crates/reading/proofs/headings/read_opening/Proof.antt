@@ -18,7 +18,7 @@ use Rattle.reading.proofs.headings.read_opening.Tie as tie
 
 module _ (c : tie.After-next_heading-first) where
   abbrev s : List ℕ
-  s = c.before.before.before.before.before.before.before.args.text.now
+  s = c.args.text.now
 
   first : c.next_heading-first.result ≡ next_line is_heading s 0
   first = c.next_heading-first.ensures ∙ next_line-up_to s (length s) 0 (omega arith) (omega arith)

@@ -16,7 +16,7 @@ invariant-loop-i store n table₀ i₀ table i = (i ≤ n) × (table ≡ paste t
 abbrev decreases-loop-i : tie.decreases-loop-i
 decreases-loop-i store n table₀ i₀ table i = n - i
 
-size : (c : tie.At-loop-i invariant-loop-i decreases-loop-i) → length c.loop-i.table ≡ length c.before.args.table.now
+size : (c : tie.At-loop-i invariant-loop-i decreases-loop-i) → length c.loop-i.table ≡ length c.args.table.now
 size c = ap length c.loop-i.invariant.1 ∙ length-paste _ 0 _ c.loop-i.i (omega arith) (omega arith)
 
 turn : (t s : List ℕ) (i : ℕ) → i < length t → i < length s → set (paste t 0 s i) i (get_or s i 0) ≡ paste t 0 s (i + 1)
@@ -28,13 +28,13 @@ loop-again : tie.Need-loop-i-preserved invariant-loop-i decreases-loop-i
 loop-again c =
     let at-loop = c.before.before in
     let i = at-loop.loop-i.i in
-    let s = at-loop.before.args.store.now in
+    let s = at-loop.args.store.now in
     (omega arith, ap (λ (l : List ℕ). set l i (get_or s i 0)) at-loop.loop-i.invariant.1 ∙ turn _ s i (omega arith) (omega arith))
 
 returns : tie.Need-returns invariant-loop-i decreases-loop-i
 returns c =
-    let loop = c.before.loop-i in
-    let all : loop.i ≡ c.before.before.args.n = omega arith in
+    let loop = c.loop-i in
+    let all : loop.i ≡ c.args.n = omega arith in
     rw (← all) loop.invariant.1
 
 pub copy_spec : {M : Type 1} → statement M

@@ -12,7 +12,7 @@ keep-headings-requires c κs =
     let at-opening = c.before.before.before.before in
     let start = at-opening.before.before.before.before in
     let (first, count, line) = at-opening.read_opening-turn.ensures.0 in
-    keeps-opening _ _ _ _ start.requires first count line at-opening.read_opening-turn.ensures.1 c.before.if-turn.false
+    keeps-opening _ _ _ _ start.requires first count line at-opening.read_opening-turn.ensures.1 c.if-turn.false
 
 pub keep_spec : {M : Type 1} → statement M
 keep_spec =
@@ -23,4 +23,4 @@ keep_spec =
     (λ c. inl refl)
     keep-headings-requires
     (λ c. search rules)
-    (λ c. inr c.before.before.keep_headings.ensures))
+    (λ c. inr c.keep_headings.ensures))

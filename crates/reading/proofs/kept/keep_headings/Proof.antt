@@ -18,23 +18,23 @@ decreases-loop-at text from number count store₀ end at₀ line₀ last₀ n₀
 
 read-heading-requires : tie.Need-read_heading-turn-requires invariant-loop-at decreases-loop-at
 read-heading-requires c κs =
-    let K = c.before.before.loop-at.invariant.0 in
-    (K.here, c.before.loop-at-test.true, keeps-small K, K.bound, K.line c.before.loop-at-test.true)
+    let K = c.loop-at.invariant.0 in
+    (K.here, c.loop-at-test.true, keeps-small K, K.bound, K.line c.loop-at-test.true)
 
 returns : tie.Need-returns-then-turn invariant-loop-at decreases-loop-at
 returns c =
     let at-heading = c.before.before.before in
-    let K = at-heading.before.before.before.loop-at.invariant.0 in
+    let K = at-heading.loop-at.invariant.0 in
     keeps-still K _ (at-heading.read_heading-turn.ensures.1 K.earlier K.index K.tracked)
 
 loop-less : tie.Need-loop-at-smaller invariant-loop-at decreases-loop-at
-loop-less c = omega (arith, c.before.before.before.read_heading-turn.ensures.0)
+loop-less c = omega (arith, c.read_heading-turn.ensures.0)
 
 loop-again : tie.Need-loop-at-preserved invariant-loop-at decreases-loop-at
 loop-again c =
     let at-heading = c.before.before.before in
     let at_test = at-heading.before.before in
-    let K = at_test.before.loop-at.invariant.0 in
+    let K = at_test.loop-at.invariant.0 in
     let (less, next, count, line) = at-heading.read_heading-turn.ensures.0 in (
       keeps-turn K _ _ at_test.loop-at-test.true next count line (at-heading.read_heading-turn.ensures.1 K.earlier K.index K.tracked) c.if-turn.false,
       search rules,
@@ -46,11 +46,11 @@ keep_headings_spec =
     (tie.spec
     invariant-loop-at
     decreases-loop-at
-    (λ c. (c.before.before.requires, refl))
+    (λ c. (c.requires, refl))
     read-heading-requires
     (λ c. search rules)
     returns
     loop-less
     loop-again
-    (λ c. c.before.loop-at.invariant.1)
-    (λ c. c.before.loop-at.invariant.0))
+    (λ c. c.loop-at.invariant.1)
+    (λ c. c.loop-at.invariant.0))

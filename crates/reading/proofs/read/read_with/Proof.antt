@@ -31,7 +31,7 @@ returns-2 c =
     let at_count = c.before.before.before.before in
     let at-keep = kept at_count in
     settled-short _ _ _ _ (start at-keep).pre (kept-counted _ _ _ at-keep.keep-kept.ensures _ at_count.read_on-counted.ensures)
-    c.before.if-counted.false c.if-table-count.true
+    c.if-counted.false c.if-table-count.true
 
 -- before the copy
 module _ (c : tie.After-copy-arg-1) where
@@ -65,7 +65,7 @@ returns-3 c =
     let at_arg = at_copy.before.before.before in
     let may = (at-keep at_arg).keep-kept.ensures in
     let goes = (at_count at_arg).read_on-counted.ensures in
-    settled-done _ _ _ _ (start (at-keep at_arg)).requires (kept-counted _ _ _ may _ goes) (at_room at_arg).before.if-counted.false (at_room at_arg).if-table-count.false
+    settled-done _ _ _ _ (start (at-keep at_arg)).requires (kept-counted _ _ _ may _ goes) (at_room at_arg).if-counted.false (at_room at_arg).if-table-count.false
     _ _ (kept-written _ _ _ may _ (omega (arith, kept-fewer _ _ _ may _ goes, (at_room at_arg).if-table-count.false)) (rw at_copy.copy.ensures at at-write.read_on.ensures))
 
 pub read_with_spec : {M : Type 1} → statement M

@@ -16,29 +16,29 @@ returns c = (sym (absorb-stop _ _ c.if-sink.true), (omega arith, λ h. absurd (t
 returns-2 : tie.Need-returns-then-depth-gt-DEPTH
 returns-2 c =
     rw c.stop.ensures
-    (sym (absorb-deep _ _ _ _ c.before.before.if-sink.false c.before.if-depth-gt-DEPTH.true), (omega arith, λ h. absurd (true≢false h)))
+    (sym (absorb-deep _ _ _ _ c.if-sink.false c.if-depth-gt-DEPTH.true), (omega arith, λ h. absurd (true≢false h)))
 
 returns-3 : tie.Need-returns-then-table-at
 returns-3 c =
     let at-mode = c.before.before.before in
     rw c.stop-then-table-at.ensures (
-      sym (absorb-full _ _ _ _ at-mode.before.before.if-sink.false at-mode.before.if-depth-gt-DEPTH.false at-mode.if-sink-2.true c.before.if-table-at.true),
+      sym (absorb-full _ _ _ _ at-mode.if-sink.false at-mode.if-depth-gt-DEPTH.false at-mode.if-sink-2.true c.if-table-at.true),
       (omega arith, λ h. absurd (true≢false h)),
     )
 
 returns-4 : tie.Need-returns
 returns-4 c =
     let at-depth = c.before.before in
-    let go = at-depth.before.if-sink.false in (
+    let go = at-depth.if-sink.false in (
       ⊎_elim
           (λ w. rw (w.7 ∙ w.4.ensures) (sym (absorb-put _ _ _ _ go at-depth.if-depth-gt-DEPTH.false w.0.taken w.2.left)))
           (λ w. rw w.1 (sym (absorb-count _ _ _ _ go at-depth.if-depth-gt-DEPTH.false w.0.left)))
-          c.before.if-sink-2.branch,
+          c.if-sink-2.branch,
       (omega arith, λ h. omega arith),
     )
 
 same_length : tie.Need-shape_of-table
-same_length c = ⊎_elim (λ w. ap length (w.7 ∙ w.4.ensures) ∙ simp length-set) (λ w. ap length w.1) c.before.if-sink-2.branch
+same_length c = ⊎_elim (λ w. ap length (w.7 ∙ w.4.ensures) ∙ simp length-set) (λ w. ap length w.1) c.if-sink-2.branch
 
 pub emit_spec : {M : Type 1} → statement M
 emit_spec =

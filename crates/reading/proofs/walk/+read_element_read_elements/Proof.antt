@@ -105,7 +105,7 @@ elements-calls t = (next-element-reads.Asked, next-element-reads.Learnt, read-el
 element-returns : (t : ℕ) → read-element-lts.Need-returns (element-calls t) (read-element-at t) read-element.Post
 element-returns t c =
     let at-emit = c.before.before.before in
-    let inner = at-emit.before.before.depth-in.ensures in
+    let inner = at-emit.depth-in.ensures in
     let start = at-emit.before.before.before.before.before in
     let number = start.requires.1.4 in
     let some = start.requires.1.0.some in
@@ -120,7 +120,7 @@ emit-small t c κs =
 
 -- an element of lines is a table or a property drawer
 element-lines : (t : ℕ) (c : read-element-lts.Joined2 (element-calls t) (read-element-at t) read-element.Post) →
-    let e = c.before.before.before.before.before.before.before.before.before.args.e in
+    let e = c.args.e in
     e.kind ≡ (lines_to (eqb e.kind Kind.table) e.to).kind
 element-lines t c = lines-kind _ _ (on c.if2.branch (λ w. inl w.taken) (λ w. inr (w.0.left, w.1.taken)))
 
@@ -164,7 +164,7 @@ element-lines-requires t c κs =
         rw first (i.counted (eqb e.kind Kind.table) (element-lines t at-if)),
         at-emit.emit.ensures.1.1 at_open.if1.false,
         at_open.if1.false,
-        inner-number _ _ _ _ i holder _ _ _ start.requires.1.4 at_first.first-line.ensures.1 c.before.inner-line.ensures _ first,
+        inner-number _ _ _ _ i holder _ _ _ start.requires.1.4 at_first.first-line.ensures.1 c.inner-line.ensures _ first,
       ),
     )
 
@@ -174,7 +174,7 @@ element-returns-2 t c =
     let at_first = at-lines.before.before.before in
     let at-if = at_first.before in
     let at-emit = at-if.before.before.before.before in
-    let inner = at-emit.before.before.depth-in.ensures in
+    let inner = at-emit.depth-in.ensures in
     let first = at_first.first-line.ensures.0 in
     let start = at-emit.before.before.before.before.before in
     let number = start.requires.1.4 in
@@ -191,12 +191,12 @@ element-returns-3 : (t : ℕ) → read-element-lts.Need-returns-3 (element-calls
 element-returns-3 t c =
     let at-depth = c.before in
     let at-emit = at-depth.before.before.before.before.before.before in
-    let inner = at-emit.before.before.depth-in.ensures in
+    let inner = at-emit.depth-in.ensures in
     let start = at-emit.before.before.before.before.before in
     let number = start.requires.1.4 in
     let i = start.requires.1.0 in (
       with_held-leaf _ _ _ _ _ (rw (inner, number) at at-emit.emit.ensures.0)
-          (is_holder-no _ i.low (depth_in-same _ _ (rw inner at at-depth.if4.true)) at-depth.before.before.if2.false at-depth.before.if3.false
+          (is_holder-no _ i.low (depth_in-same _ _ (rw inner at at-depth.if4.true)) at-depth.if2.false at-depth.if3.false
           (not-true _ c.if5.true)),
       omega (arith, slack-le (eqb start.args.e.kind Kind.item)),
     )
@@ -218,10 +218,10 @@ element-number-requires-2 t c κs =
 
 -- an element that is gone into
 goes_in : (t : ℕ) (c : read-element-lts.Joined4 (element-calls t) (read-element-at t) read-element.Post) →
-    T (holds_run c.before.before.before.before.before.before.before.before.before.before.before.args.e.kind)
+    T (holds_run c.args.e.kind)
 goes_in t c =
     let at-emit = c.before.before.before.before.before.before in
-    let inner = at-emit.before.before.depth-in.ensures in
+    let inner = at-emit.depth-in.ensures in
     on c.if4.branch (λ w. item-run _ (eqb-true _ Kind.item (not-false _ w.1.left))) (λ w. deep-run _ _ (rw inner at w.left))
 
 element-elements-requires : (t : ℕ) → read-element-lts.Need-read-elements-requires (element-calls t) (read-element-at t) read-element.Post
@@ -242,7 +242,7 @@ element-elements-requires t c κs =
     let small : 4 * (e.to - at_first.first-line2.result.at) + (3 - 2 * slack (eqb e.kind Kind.list))
     < 4 * (start.args.end - start.args.at) + (2 - 2 * slack_of e.kind) = rw first less in
     let count = inside-count s start.args.at start.args.end e i run _ _ at-emit.emit.ensures.1.0 start.requires.1.3 in
-    let shallow = at-emit.emit.ensures.1.1 at-if.before.before.before.if1.false in
+    let shallow = at-emit.emit.ensures.1.1 at-if.if1.false in
     let small-index : start.args.sink.count ≤ far = omega (arith, start.requires.1.3, slack-le (eqb e.kind Kind.item), i.some, i.text, i.limit) in (
       rw (← start.requires.0) small,
       (
@@ -262,7 +262,7 @@ element-returns-4 t c =
     let at_first = at-line.before in
     let at-if = at_first.before in
     let at-emit = at-if.before.before.before.before.before.before in
-    let inner = at-emit.before.before.depth-in.ensures in
+    let inner = at-emit.depth-in.ensures in
     let first = at_first.first-line2.ensures.0 in
     let start = at-emit.before.before.before.before.before in
     let number = start.requires.1.4 in
@@ -290,22 +290,22 @@ decreases-loop text from to items number depth parent table₀ at₀ n₀ out₀
 none : (t : ℕ) → read-elements-lts.Need-returns (elements-calls t) (read-elements-at t) read-elements.Post invariant-loop decreases-loop
 unfolding absorbed
 none t c =
-    let args = c.before.before.before.args in
+    let args = c.args in
     let past : (run_to args.items args.to).to ≤ args.from = omega (arith, run_to-to args.items args.to, c.if1.true) in
-    let range = c.before.before.before.requires.1.0.range in
+    let range = c.requires.1.0.range in
     (sym (ap (absorbed (state _ _)) (entries_from-none _ _ _ _ _ _ past)), (omega (arith, range.order), λ h. absurd (omega arith)))
 
 first-requires : (t : ℕ) → read-elements-lts.Need-next-element-requires (elements-calls t) (read-elements-at t) read-elements.Post invariant-loop decreases-loop
-first-requires t c κs = let p = c.before.before.before.requires.1 in (p.0, c.if1.false, p.4 c.if1.false)
+first-requires t c κs = let p = c.requires.1 in (p.0, c.if1.false, p.4 c.if1.false)
 
 holds : (t : ℕ) → read-elements-lts.Need-loop-init (elements-calls t) (read-elements-at t) read-elements.Post invariant-loop decreases-loop
 holds t c =
-    let p = c.before.before.before.before.requires.1 in
-    (omega arith, c.before.if1.false, (p.0.range, p.0.all), c.next-element.ensures, omega arith, refl, refl, p.4 c.before.if1.false)
+    let p = c.requires.1 in
+    (omega arith, c.if1.false, (p.0.range, p.0.all), c.next-element.ensures, omega arith, refl, refl, p.4 c.if1.false)
 
 read-element-requires : (t : ℕ) → read-elements-lts.Need-read-element-requires (elements-calls t) (read-elements-at t) read-elements.Post invariant-loop decreases-loop
 read-element-requires t c κs =
-    let loop = c.before.loop in
+    let loop = c.loop in
     let start = c.before.before.before.before.before.before in
     let pre = start.requires in
     let lies = loop.invariant.3.lies in
@@ -320,10 +320,10 @@ last : (t : ℕ) → read-elements-lts.Need-returns-2 (elements-calls t) (read-e
 unfolding absorbed
 last t c =
     let at-element = c.before.before.before.before in
-    let loop = at-element.before.before.loop in
+    let loop = at-element.loop in
     let inv = loop.invariant in
     let rest = inv.3.rest.range in
-    let args = at-element.before.before.before.before.before.before.before.args in
+    let args = at-element.args in
     let S = stepped args.items args.text.now loop.at args.to inv.1 inv.2.0 inv.2.1 in
     let slacks = step-slack _ _ _ _ _ inv.3 in
     let past : (run_to args.items args.to).to ≤ loop.step.end = omega (arith, run_to-to args.items args.to, c.if2.true) in
@@ -335,27 +335,27 @@ last t c =
 
 next-requires : (t : ℕ) → read-elements-lts.Need-next-element-requires-2 (elements-calls t) (read-elements-at t) read-elements.Post invariant-loop decreases-loop
 next-requires t c κs =
-    let step = c.before.before.before.before.before.before.loop.invariant.3 in
+    let step = c.loop.invariant.3 in
     let rest = step.rest.range in
     (step.rest, c.if2.false, step.line (omega arith))
 
 less : (t : ℕ) → read-elements-lts.Need-loop-smaller (elements-calls t) (read-elements-at t) read-elements.Post invariant-loop decreases-loop
 less t c =
-    let inv = c.before.before.before.before.before.before.before.loop.invariant in
+    let inv = c.loop.invariant in
     let lies = inv.3.lies in
     omega arith
 
 again : (t : ℕ) → read-elements-lts.Need-loop-preserved (elements-calls t) (read-elements-at t) read-elements.Post invariant-loop decreases-loop
 again t c =
     let at-element = c.before.before.before.before.before in
-    let loop = at-element.before.before.loop in
+    let loop = at-element.loop in
     let inv = loop.invariant in
-    let args = at-element.before.before.before.before.before.before.before.args in
+    let args = at-element.args in
     let S = stepped args.items args.text.now loop.at args.to inv.1 inv.2.0 inv.2.1 in
     let rest = inv.3.rest.range in
     let lies = inv.3.lies in (
       omega arith,
-      c.before.if2.false,
+      c.if2.false,
       (inv.3.rest.range, inv.3.rest.all),
       c.next-element2.ensures,
       omega arith,
@@ -369,27 +369,27 @@ pub +read-element-read-elements-spec : {M : Type 1} → statement M
     (λ t. read-element-lts.spec (element-calls t) (read-element-at t) read-element.Post
     (λ c κs. omega arith)
     (emit-small t)
-    (λ c. c.before.before.before.emit.auto.0)
+    (λ c. c.emit.auto.0)
     (element-returns t)
     (λ c κs. omega arith)
     (element-number-requires t)
     (element-lines-requires t)
-    (λ c. c.before.before.read-lines.auto.1.1.1.1.1.1.1.1.0 ∙ c.before.before.before.before.before.before.before.before.before.before.emit.auto.0)
+    (λ c. c.read-lines.auto.1.1.1.1.1.1.1.1.0 ∙ c.emit.auto.0)
     (element-returns-2 t)
-    (λ c. c.before.before.before.before.before.before.before.emit.auto.0)
+    (λ c. c.emit.auto.0)
     (element-returns-3 t)
     (λ c κs. omega arith)
     (element-number-requires-2 t)
     (λ c κs. search rules)
     (element-elements-requires t)
-    (λ c. c.before.before.before.read-elements.auto.1.1.1.1.1.1.1.1.0 ∙ c.before.before.before.before.before.before.before.before.before.before.before.before.before.before.before.before.emit.auto.0)
+    (λ c. c.read-elements.auto.1.1.1.1.1.1.1.1.0 ∙ c.emit.auto.0)
     (element-returns-4 t))
     λ t. read-elements-lts.spec (elements-calls t) (read-elements-at t) read-elements.Post invariant-loop decreases-loop
     (none t)
     (first-requires t)
     (holds t)
     (read-element-requires t)
-    (λ c. c.before.before.before.before.read-element.auto.1.1.1.1.1.1.1.0 ∙ c.before.before.before.before.before.before.loop.invariant.5)
+    (λ c. c.read-element.auto.1.1.1.1.1.1.1.0 ∙ c.loop.invariant.5)
     (last t)
     (next-requires t)
     (less t)

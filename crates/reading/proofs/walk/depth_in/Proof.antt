@@ -14,16 +14,16 @@ use Rattle.table.specs.Nesting.{depth_in}
 use Rattle.reading.proofs.walk.depth_in.Statement.{statement}
 use Rattle.reading.proofs.walk.depth_in.Tie as tie
 
-two : (c : tie.Joined-kind-eq-DRAWER) → c.if-kind-eq-DRAWER.if-kind-eq-GREATER_BLOCK ≡ (eqb c.before.args.kind Kind.drawer || eqb c.before.args.kind Kind.greater_block)
+two : (c : tie.Joined-kind-eq-DRAWER) → c.if-kind-eq-DRAWER.if-kind-eq-GREATER_BLOCK ≡ (eqb c.args.kind Kind.drawer || eqb c.args.kind Kind.greater_block)
 two c =
     ⊎_elim
-    (λ w. w.1 ∙ rw (eq-eqb c.before.args.kind Kind.drawer w.0.taken))
-    (λ w. w.1 ∙ rw (ne_eqb c.before.args.kind Kind.drawer w.0.left))
+    (λ w. w.1 ∙ rw (eq-eqb c.args.kind Kind.drawer w.0.taken))
+    (λ w. w.1 ∙ rw (ne_eqb c.args.kind Kind.drawer w.0.left))
     c.if-kind-eq-DRAWER.branch
 
-counts : (c : tie.Joined-kind-eq-GREATER_BLOCK) → c.if-kind-eq-GREATER_BLOCK.if-kind-eq-LIST ≡ counts_depth c.before.before.args.kind
+counts : (c : tie.Joined-kind-eq-GREATER_BLOCK) → c.if-kind-eq-GREATER_BLOCK.if-kind-eq-LIST ≡ counts_depth c.args.kind
 counts c =
-    let k = c.before.before.args.kind in
+    let k = c.args.kind in
     let or-list : Bool → Bool = λ v. v || eqb k Kind.list in
     rw (counts_depth-is k)
     (⊎_elim

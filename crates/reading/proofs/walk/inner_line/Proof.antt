@@ -10,10 +10,10 @@ use Rattle.reading.specs.Walk.{starts_inside, inner_line}
 use Rattle.reading.proofs.walk.inner_line.Statement.{statement}
 use Rattle.reading.proofs.walk.inner_line.Tie as tie
 
-inside : (c : tie.Joined-then-kind-eq-TABLE) → starts_inside c.before.args.kind ≡ true
+inside : (c : tie.Joined-then-kind-eq-TABLE) → starts_inside c.args.kind ≡ true
 unfolding starts_inside
 inside c =
-    let k = c.before.args.kind in
+    let k = c.args.kind in
     ⊎_elim
     (λ w. rw (eq-eqb k Kind.table w.taken))
     (⊎_elim
@@ -28,8 +28,8 @@ returns c = rw (inside c, inner_line)
 returns-2 : tie.Need-returns
 unfolding inner_line starts_inside
 returns-2 c =
-    let k = c.before.before.before.args.kind in
-    rw (ne_eqb k Kind.table c.before.before.if-kind-eq-TABLE.false, c.before.if-kind-eq-LIST.false, c.if-kind-eq-ITEM.false, inner_line)
+    let k = c.args.kind in
+    rw (ne_eqb k Kind.table c.if-kind-eq-TABLE.false, c.if-kind-eq-LIST.false, c.if-kind-eq-ITEM.false, inner_line)
 
 pub inner_line_spec : {M : Type 1} → statement M
 inner_line_spec = tie.close (tie.spec (λ c. omega arith) returns (λ c. omega arith) (λ c. omega arith) returns-2)

@@ -9,12 +9,12 @@ use Rattle.reading.proofs.walk.inner_place.Tie as tie
 
 returns : tie.Need-returns-then-tight
 unfolding inner_place
-returns c = rw (eq-eqb c.before.before.args.kind Kind.item c.before.if-kind-eq-ITEM.true, c.if-tight.true, inner_place)
+returns c = rw (eq-eqb c.args.kind Kind.item c.if-kind-eq-ITEM.true, c.if-tight.true, inner_place)
 
 returns-2 : tie.Need-returns-else-kind-eq-ITEM
 unfolding inner_place
 returns-2 c =
-    let k = c.before.args.kind in
+    let k = c.args.kind in
     ⊎_elim
     (λ w. rw (eq-eqb k Kind.item w.0.taken, w.1.left, inner_place))
     (λ w. rw (ne_eqb k Kind.item w.left, inner_place))

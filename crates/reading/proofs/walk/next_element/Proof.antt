@@ -40,45 +40,45 @@ unfolding element_at
 element-is s p e l pl b m r h j i = let k = line_span-start s l p e h in i.is ∙ rw (k, j)
 
 -- the line at `at` is one of the scope
-line : (c : tie.After-line_at-line) → let a = c.before.before.args in InScope a.text.now c.line_at-line.result (scope_of a.to a.place a.ends a.names)
+line : (c : tie.After-line_at-line) → let a = c.args in InScope a.text.now c.line_at-line.result (scope_of a.to a.place a.ends a.names)
 line c =
-    let pre = c.before.before.requires in
+    let pre = c.requires in
     let is = c.line_at-line.ensures in
     record { line = line_of _ _ _ _ pre.1 pre.0.range.text is; known = rw (line_span-start _ _ _ _ is) pre.0.known }
 
 -- what is found there
-here : (c : tie.Joined-items) → let a = c.before.before.before.args in
+here : (c : tie.Joined-items) → let a = c.args in
     c.if-items.parsed.element ≡ spanned a.at (lines_in a.text.now a.at a.to) (found_in a.items a.text.now a.at a.to)
 here c =
-    let pre = c.before.before.before.requires in
-    let at-line = c.before.line_at-line.ensures in
+    let pre = c.requires in
+    let at-line = c.line_at-line.ensures in
     ⊎_elim
     (λ w. ap (λ (r : Parsed). r.element) w.2 ∙ rw w.0.taken (item-is _ _ _ _ _ _ _ _ at-line w.1.ensures))
     (λ w. ap (λ (r : Parsed). r.element) w.2 ∙ rw w.0.left (element-is _ _ _ _ _ _ _ _ at-line (pre.0.place w.0.left pre.1) w.1.ensures))
     c.if-items.branch
 
-known : (c : tie.Joined-items) → let a = c.before.before.before.args in
+known : (c : tie.Joined-items) → let a = c.args in
     Knows a.text.now c.if-items.parsed.element.end a.to c.if-items.parsed.ends c.if-items.parsed.names
 known c = ⊎_elim (λ w. rw w.2 w.1.ensures.known) (λ w. rw w.2 w.1.ensures.known) c.if-items.branch
 
 steps : (c : tie.Joined-items) → let start = c.before.before.before in let a = start.args in
     Stepped a.items a.text.now a.at a.to start.requires.1
-steps c = let pre = c.before.before.before.requires in stepped _ _ _ _ pre.1 pre.0.range pre.0.all
+steps c = let pre = c.requires in stepped _ _ _ _ pre.1 pre.0.range pre.0.all
 
 first-line-requires : tie.Need-first_line-next-requires
 first-line-requires c κs =
     let at-if = c.before in
-    let pre = at-if.before.before.before.requires in
+    let pre = at-if.requires in
     ((step_end _ _ _ _ _ (steps at-if) _ (here at-if)).1, pre.0.range.text)
 
-number-le : (c : tie.After-shared_slice_known-1) → c.before.args.number ≤ length c.before.args.text.now
+number-le : (c : tie.After-shared_slice_known-1) → c.args.number ≤ length c.args.text.now
 number-le c =
-    let pre = c.before.requires in
+    let pre = c.requires in
     let text = pre.0.range.text in
-    omega (arith, pre.2, line_number-le c.before.args.text.now c.before.args.at)
+    omega (arith, pre.2, line_number-le c.args.text.now c.args.at)
 
 -- so many lines are its own and blank
-lines : (c : tie.After-first_line-next) → let at-if = c.before.before in let a = at-if.before.before.before.args in
+lines : (c : tie.After-first_line-next) → let at-if = c.before.before in let a = at-if.args in
     let n = at-if.if-items.parsed.element.own + c.first_line-next.result.lines in
     let s = a.text.now in
     let b = c.first_line-next.result.at in
@@ -89,7 +89,7 @@ returns : tie.Need-returns
 returns c =
     let at_first = c.before.before.before.before.before in
     let at-if = at_first.before.before in
-    let (range, some, number) = at-if.before.before.before.requires in
+    let (range, some, number) = at-if.requires in
     let is = here at-if in
     let S = steps at-if in
     let next = at_first.first_line-next.ensures.0 in
@@ -106,8 +106,8 @@ returns c =
       };
     }
 
-limit : (c : tie.After-line_at-line) → let a = c.before.before.args in a.to ≤ text_limit
-limit c = let range = c.before.before.requires.0.range in omega (arith, range.text, range.limit)
+limit : (c : tie.After-line_at-line) → let a = c.args in a.to ≤ text_limit
+limit c = let range = c.requires.0.range in omega (arith, range.text, range.limit)
 
 pub next_element_spec : {M : Type 1} → statement M
 next_element_spec =

@@ -29,7 +29,7 @@ abbrev decreases-loop-at : tie.decreases-loop-at
 decreases-loop-at text from to rows lines number depth parent table₀ at₀ n₀ out₀ table at n out = to - at
 
 -- each line is a byte at least
-lines-le : (c : tie.Then-not-sink invariant-loop-at decreases-loop-at) → let args = c.before.before.before.before.args in args.lines + args.from ≤ args.to
+lines-le : (c : tie.Then-not-sink invariant-loop-at decreases-loop-at) → let args = c.args in args.lines + args.from ≤ args.to
 lines-le c =
     let start = c.before.before.before.before in
     omega (arith, lines_in-length start.args.text.now start.args.from start.args.to (omega arith) (omega arith))
@@ -48,32 +48,32 @@ module _ (c : tie.After-line_at-line invariant-loop-at decreases-loop-at) where
   start = c.before.before.before.before.before.before.before
 
   here : LineOf start.args.text.now c.line_at-line.result start.args.to
-  here = line_of _ _ _ _ c.before.loop-at-test.true (omega arith) c.line_at-line.ensures
+  here = line_of _ _ _ _ c.loop-at-test.true (omega arith) c.line_at-line.ensures
 
-  next : (c.before.before.loop-at.at < c.line_at-line.result.end) × (c.line_at-line.result.end ≤ start.args.to)
-  next = line_span-next _ _ _ _ c.line_at-line.ensures c.before.loop-at-test.true (omega arith)
+  next : (c.loop-at.at < c.line_at-line.result.end) × (c.line_at-line.result.end ≤ start.args.to)
+  next = line_span-next _ _ _ _ c.line_at-line.ensures c.loop-at-test.true (omega arith)
 
   -- the next line's number
   number : c.line_at-line.result.end < start.args.to
-      → c.before.before.loop-at.n + 1 ≡ line_number start.args.text.now c.line_at-line.result.end
+      → c.loop-at.n + 1 ≡ line_number start.args.text.now c.line_at-line.result.end
   number i =
-      let some = c.before.loop-at-test.true in
-      ap (λ (k : ℕ). k + 1) (c.before.before.loop-at.invariant.4 some)
+      let some = c.loop-at-test.true in
+      ap (λ (k : ℕ). k + 1) (c.loop-at.invariant.4 some)
       ∙ sym (line_number-next _ _ _ _ some (omega arith) (line_span-end _ _ _ _ c.line_at-line.ensures) i)
 
-  number_small : c.before.before.loop-at.n ≤ c.before.before.loop-at.at
+  number_small : c.loop-at.n ≤ c.loop-at.at
   number_small =
-      let loop = c.before.before.loop-at in
-      omega (arith, loop.invariant.4 c.before.loop-at-test.true, line_number-le start.args.text.now loop.at)
+      let loop = c.loop-at in
+      omega (arith, loop.invariant.4 c.loop-at-test.true, line_number-le start.args.text.now loop.at)
 
 line-record-requires : tie.Need-line_record-r-requires invariant-loop-at decreases-loop-at
 line-record-requires c κs =
-    (here c, c.before.before.loop-at.invariant.4 c.before.loop-at-test.true ∙ ap (line_number _) (sym (line_span-start _ _ _ _ c.line_at-line.ensures)))
+    (here c, c.loop-at.invariant.4 c.loop-at-test.true ∙ ap (line_number _) (sym (line_span-start _ _ _ _ c.line_at-line.ensures)))
 
 emit-requires : tie.Need-emit-out-requires invariant-loop-at decreases-loop-at
 emit-requires c κs =
-    let args = c.before.before.before.before.before.before.before.before.before.args in
-    (rw c.before.line_record-r.ensures (line_small _ _ _ args.parent (here c.before.before) args.rows (omega arith) (omega arith)), omega arith)
+    let args = c.args in
+    (rw c.line_record-r.ensures (line_small _ _ _ args.parent (here c.before.before) args.rows (omega arith) (omega arith)), omega arith)
 
 loop-less : tie.Need-loop-at-smaller invariant-loop-at decreases-loop-at
 loop-less c = let n = next c.before.before.before.before.before in omega arith
@@ -84,7 +84,7 @@ loop-again c =
     let at-record = at-emit.before.before in
     let at-line = at-record.before in
     let at_test = at-line.before in
-    let inv = at_test.before.loop-at.invariant in
+    let inv = at_test.loop-at.invariant in
     let start = at_test.before.before.before.before.before.before in
     let args = start.args in
     let n = next at-line in (
@@ -99,8 +99,8 @@ loop-again c =
 
 returns-2 : tie.Need-returns invariant-loop-at decreases-loop-at
 returns-2 c =
-    let loop = c.before.loop-at in
-    let args = c.before.before.before.before.before.before.args in
+    let loop = c.loop-at in
+    let args = c.args in
     (sym (lines_none args.text.now args.rows _ args.parent args.depth _ loop.out.count _ c.loop-at-test.false) ∙ loop.invariant.3, omega arith)
 
 pub read_lines_spec : {M : Type 1} → statement M
@@ -111,12 +111,12 @@ read_lines_spec =
     decreases-loop-at
     (λ c. omega (arith, lines-le c.before))
     returns
-    (λ c. (omega arith, omega arith, refl, refl, c.before.before.before.before.requires.1.3))
+    (λ c. (omega arith, omega arith, refl, refl, c.requires.1.3))
     (λ c κs. omega arith)
     line-record-requires
     emit-requires
     (λ c. let n = number_small c.before.before.before.before.before in omega arith)
     loop-less
     loop-again
-    (λ c. c.before.loop-at.invariant.2)
+    (λ c. c.loop-at.invariant.2)
     returns-2)

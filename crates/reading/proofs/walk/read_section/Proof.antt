@@ -18,7 +18,7 @@ use Rattle.reading.proofs.walk.read_section.Statement.{statement}
 use Rattle.reading.proofs.walk.read_section.Tie as tie
 
 first-line-requires : tie.Need-first_line-first-requires
-first-line-requires c κs = let at = c.before.before.requires.0 in section-end _ _ _ at.limit at.start at.end
+first-line-requires c κs = let at = c.requires.0 in section-end _ _ _ at.limit at.start at.end
 
 -- what holds of the first line, `at`
 module _ (c : tie.After-first_line-first) where

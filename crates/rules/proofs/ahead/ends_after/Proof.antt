@@ -14,21 +14,21 @@ use Rattle.rules.proofs.ahead.ends_after.Tie as tie
 
 returns : tie.Need-returns-then-not-scope
 returns c z =
-    let pre = c.before.before.before.requires in
+    let pre = c.requires in
     (knows-next _ _ _ _ _ pre.line pre.known).ends (not-true _ c.if-not-scope.true)
 
 find-end-requires : tie.Need-find_end-search-requires
-find-end-requires c κs = let o = line_of-order _ _ _ c.before.before.before.before.before.requires.line in omega arith
+find-end-requires c κs = let o = line_of-order _ _ _ c.requires.line in omega arith
 
 returns-3 : tie.Need-returns-in_default
-returns-3 c z = closer-nothing _ _ _ _ (sym c.enum_told-in_default-1.given.1 ∙ searched-closer _ _ _ _ _ c.before.before.find_end-search.ensures)
+returns-3 c z = closer-nothing _ _ _ _ (sym c.enum_told-in_default-1.given.1 ∙ searched-closer _ _ _ _ _ c.find_end-search.ensures)
 
 pub ends_after_spec : {M : Type 1} → statement M
 ends_after_spec =
     tie.close
     (tie.spec
     returns
-    (λ c κs. c.before.before.before.requires.line)
+    (λ c κs. c.requires.line)
     (λ c z. absurd (true≢false z))
     find-end-requires
     (λ c. search rules)

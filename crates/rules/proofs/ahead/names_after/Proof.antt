@@ -14,26 +14,26 @@ use Rattle.rules.proofs.Laws.NoLines.{knows-next}
 use Rattle.rules.proofs.ahead.names_after.Statement.{statement}
 use Rattle.rules.proofs.ahead.names_after.Tie as tie
 
-kept : (c : tie.After-shared_slice_known-1) → let args = c.before.args in
+kept : (c : tie.After-shared_slice_known-1) → let args = c.args in
     Names args.text.now args.line.end args.scope.end args.scope.names
-kept c = let pre = c.before.requires in (knows-next _ _ _ _ _ pre.line pre.known).names
+kept c = let pre = c.requires in (knows-next _ _ _ _ _ pre.line pre.known).names
 
 begins-with-requires : tie.Need-begins_with-requires
-begins-with-requires c κs = let o = line_of-order _ _ _ c.before.before.before.requires.line in (o.1, omega arith)
+begins-with-requires c κs = let o = line_of-order _ _ _ c.requires.line in (o.1, omega arith)
 
 -- the body begins so
-begin : (c : tie.Else-not-begins_with) → let args = c.before.before.before.before.before.args in
+begin : (c : tie.Else-not-begins_with) → let args = c.args in
     begins (part args.text.now args.line.from args.line.to) (word "#+begin_") ≡ true
 unfolding word
-begin c = sym c.before.begins_with.ensures ∙ not-false _ c.if-not-begins_with.false
+begin c = sym c.begins_with.ensures ∙ not-false _ c.if-not-begins_with.false
 
 has-name-requires : tie.Need-has_name-requires
 has-name-requires c κs =
     let at-begin = c.before.before in
-    omega (arith, name-order _ _ _ at-begin.before.before.before.before.before.requires.line (begin at-begin) _ c.word_end.ensures)
+    omega (arith, name-order _ _ _ at-begin.requires.line (begin at-begin) _ c.word_end.ensures)
 
 closing-names-requires : tie.Need-closing_names-requires
-closing-names-requires c κs = let o = line_of-order _ _ _ c.before.before.before.before.before.before.before.before.before.requires.line in omega arith
+closing-names-requires c κs = let o = line_of-order _ _ _ c.requires.line in omega arith
 
 pub names_after_spec : {M : Type 1} → statement M
 names_after_spec =
@@ -43,8 +43,8 @@ names_after_spec =
     (λ c. search rules)
     begins-with-requires
     (λ c. kept c.before.before.before.before)
-    (λ c. omega (arith, begin-order _ _ _ c.before.before.before.before.before.before.requires.line (begin c.before)))
-    (λ c κs. omega (arith, begin-order _ _ _ c.before.before.before.before.before.before.requires.line (begin c.before)))
+    (λ c. omega (arith, begin-order _ _ _ c.requires.line (begin c.before)))
+    (λ c κs. omega (arith, begin-order _ _ _ c.requires.line (begin c.before)))
     has-name-requires
     (λ c. kept c.before.before.before.before.before.before.before.before)
     closing-names-requires

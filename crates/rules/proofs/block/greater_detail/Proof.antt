@@ -9,19 +9,19 @@ use Rattle.rules.proofs.block.greater_detail.Tie as tie
 
 returns : tie.Need-returns-then-is_word
 unfolding greater_detail word
-returns c = rw (sym c.before.is_IsWord.ensures ∙ c.if-is_word.true, greater_detail)
+returns c = rw (sym c.is_IsWord.ensures ∙ c.if-is_word.true, greater_detail)
 
 returns-2 : tie.Need-returns-then-is_word-2
 unfolding greater_detail word
 returns-2 c =
     let at_first = c.before.before.before in
-    rw (sym at_first.before.is_IsWord.ensures ∙ at_first.if-is_word.false, sym c.before.is_word-2.ensures ∙ c.if-is_word-2.true, greater_detail)
+    rw (sym at_first.is_IsWord.ensures ∙ at_first.if-is_word.false, sym c.is_word-2.ensures ∙ c.if-is_word-2.true, greater_detail)
 
 returns-3 : tie.Need-returns
 unfolding greater_detail word
 returns-3 c =
     let at_first = c.before.before.before in
-    rw (sym at_first.before.is_IsWord.ensures ∙ at_first.if-is_word.false, sym c.before.is_word-2.ensures ∙ c.if-is_word-2.false, greater_detail)
+    rw (sym at_first.is_IsWord.ensures ∙ at_first.if-is_word.false, sym c.is_word-2.ensures ∙ c.if-is_word-2.false, greater_detail)
 
 pub greater_detail_spec : {M : Type 1} → statement M
 greater_detail_spec =

@@ -45,22 +45,22 @@ decreases-lines text from to first second size mark at₀ n₀ compared₀ at n 
 starts : (c : tie.After-starts_with invariant-loop-j decreases-loop-j invariant-lines decreases-lines) →
     let at-line = c.before.before in
     let at_key = at-line.before in
-    let args = at_key.before.before.before.before.args in
+    let args = at_key.args in
     c.starts_with.result ≡ starts_with (key_byte (args.first.now ++ args.second.now) 0) (line_in args.text.now at-line.lines.at args.to)
 starts c =
     let at-line = c.before.before in
-    let args = at-line.before.before.before.before.before.args in
-    c.starts_with.ensures ∙ ap (λ m. starts_with m (line_in args.text.now at-line.lines.at args.to)) at-line.before.key_byte-mark.ensures
+    let args = at-line.args in
+    c.starts_with.ensures ∙ ap (λ m. starts_with m (line_in args.text.now at-line.lines.at args.to)) at-line.key_byte-mark.ensures
 
 other : (c : tie.Then-not-starts_with invariant-loop-j decreases-loop-j invariant-lines decreases-lines) →
     let at-line = c.before.before.before in
-    let args = at-line.before.before.before.before.before.args in
+    let args = at-line.args in
     starts_with (key_byte (args.first.now ++ args.second.now) 0) (line_in args.text.now at-line.lines.at args.to) ≡ false
 other c = sym (starts c.before) ∙ not-true _ c.if-not-starts_with.true
 
 marked : (c : tie.Else-not-starts_with invariant-loop-j decreases-loop-j invariant-lines decreases-lines) →
     let at-line = c.before.before.before in
-    let args = at-line.before.before.before.before.before.args in
+    let args = at-line.args in
     starts_with (key_byte (args.first.now ++ args.second.now) 0) (line_in args.text.now at-line.lines.at args.to) ≡ true
 marked c = sym (starts c.before) ∙ not-false _ c.if-not-starts_with.false
 
@@ -102,7 +102,7 @@ trim-end-requires c κs =
     let start = at-loop.before.before.before.before.before.before.before.before.before.before in
     omega (
       arith,
-      line_in-to start.args.text.now (at-loop.before.run_end-body.result + at-loop.loop-j.j) start.args.to
+      line_in-to start.args.text.now (at-loop.run_end-body.result + at-loop.loop-j.j) start.args.to
           at-loop.loop-j.invariant.within start.requires.1,
     )
 
@@ -119,10 +119,10 @@ loop-again c =
 -- where the loop over bytes is left by a plain `break`, the line is no closer
 differs : (c : tie.Joined-size-j invariant-loop-j decreases-loop-j invariant-lines decreases-lines) →
     let at-line = c.before.before.before.before.before.before in
-    let args = at-line.before.before.before.before.before.args in
+    let args = at-line.args in
     same (body (line_in args.text.now at-line.lines.at args.to)) (args.first.now ++ args.second.now) ≡ false
 differs c =
-    let inv = c.before.loop-j.invariant in
+    let inv = c.loop-j.invariant in
     ⊎_elim
     (λ w. matched-no _ _ _ _ _ _ inv (rw length-append w.0.taken) _ _ w.1.ensures w.2.ensures w.3.left)
     (⊎_elim
@@ -170,7 +170,7 @@ lines-again-2 c =
 returns : tie.Need-returns-then-to-at invariant-loop-j decreases-loop-j invariant-lines decreases-lines
 returns c =
     let at-line = c.before in
-    let args = at-line.before.before.before.before.before.args in
+    let args = at-line.args in
     let inv = at-line.lines.invariant in
     searched-is _ _ _ _ _ _
     (sym (further-nothing _) ∙ ap (further _) (sym (closer-none _ _ _ _ c.if-to-at.true)) ∙ inv.2)
@@ -188,7 +188,7 @@ returns-2 c =
     let key = start.args.first.now ++ start.args.second.now in
     let inv = at-loop.loop-j.invariant in
     let yes =
-    matched-yes _ _ _ _ _ _ inv (rw length-append at-end.before.if-size-j.true) _ _ at-end.line_end-end.ensures at-trim.trim_end.ensures c.if-trim_end-body.true in
+    matched-yes _ _ _ _ _ _ inv (rw length-append at-end.if-size-j.true) _ _ at-end.line_end-end.ensures at-trim.trim_end.ensures c.if-trim_end-body.true in
     searched-is _ _ _ _ _ _
     (rw (at-end.line_end-end.ensures ∙ inv.ends)
     (further-here _ _ _ ∙ ap (further _) (sym (closer-here _ _ _ _ at_some.if-to-at.false start.requires.1 yes))) ∙ at-line.lines.invariant.2)
@@ -203,7 +203,7 @@ find_closer_spec =
     invariant-lines
     decreases-lines
     (λ c. omega arith)
-    (λ c κs. c.before.before.before.requires.2.some)
+    (λ c κs. c.requires.2.some)
     (λ c. (omega arith, omega arith, further-zero _, omega arith, omega arith))
     (λ c κs. omega arith)
     (λ c κs. omega arith)

@@ -17,18 +17,18 @@ get_d-second x y j h =
     sym (get_or-append-add x y (j - length x) 0) ∙ ap (λ (k : ℕ). get_or (x ++ y) k 0) n
 
 shared-slice-read-lower-2 : tie.Need-bounds-second-j
-shared-slice-read-lower-2 c = let h = simp length-append at c.before.before.before.before.requires in omega arith
+shared-slice-read-lower-2 c = let h = simp length-append at c.requires in omega arith
 
 returns : tie.Need-returns-then-j-first
 returns c =
     let at_test = c.before.before in
-    let args = at_test.before.before.before.args in
+    let args = at_test.args in
     c.lower.ensures ∙ ap lower (sym (get_or-append args.first.now args.second.now 0 args.j at_test.if-j-first.true))
 
 returns-2 : tie.Need-returns-else-j-first
 returns-2 c =
     let at_test = c.before.before in
-    let args = at_test.before.before.before.args in
+    let args = at_test.args in
     c.lower-else-j-first.ensures ∙ ap lower (get_d-second args.first.now args.second.now args.j at_test.if-j-first.false)
 
 pub key_byte_spec : {M : Type 1} → statement M

@@ -8,7 +8,7 @@ use Rattle.rules.proofs.closer.starts_with.Statement.{statement}
 use Rattle.rules.proofs.closer.starts_with.Tie as tie
 
 returns : tie.Need-returns-then-to-first
-returns c = sym (starts_with-end _ _ _ _ c.before.run_end-first.ensures _ c.if-to-first.true)
+returns c = sym (starts_with-end _ _ _ _ c.run_end-first.ensures _ c.if-to-first.true)
 
 returns-2 : tie.Need-returns
 returns-2 c =

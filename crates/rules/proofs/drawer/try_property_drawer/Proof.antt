@@ -18,10 +18,10 @@ use Rattle.rules.proofs.drawer.try_property_drawer.Statement.{statement}
 use Rattle.rules.proofs.drawer.try_property_drawer.Tie as tie
 
 returns : tie.Need-returns-then-not-allows_properties
-returns c = property_drawer-no _ _ _ c.before.before.before.requires.line _ (rw (sym c.before.allows_properties.ensures ∙ not-true _ c.if-not-allows_properties.true))
+returns c = property_drawer-no _ _ _ c.requires.line _ (rw (sym c.allows_properties.ensures ∙ not-true _ c.if-not-allows_properties.true))
 
 is-word-requires : tie.Need-is_word-requires
-is-word-requires c κs = let o = line_of-order _ _ _ c.before.before.before.before.requires.line in (o.1, omega arith)
+is-word-requires c κs = let o = line_of-order _ _ _ c.requires.line in (o.1, omega arith)
 
 -- the place allows it, so the line decides
 line : (c : tie.After-is_word) → let start = c.before.before.before.before.before in
@@ -31,22 +31,22 @@ unfolding word
 line c =
     let at_place = c.before.before in
     rw (
-      sym at_place.before.allows_properties.ensures ∙ not-false _ at_place.if-not-allows_properties.false,
-      is_properties_line-part _ _ _ at_place.before.before.before.requires.line,
+      sym at_place.allows_properties.ensures ∙ not-false _ at_place.if-not-allows_properties.false,
+      is_properties_line-part _ _ _ at_place.requires.line,
       c.is_IsWord.ensures,
     )
 
 returns-2 : tie.Need-returns-then-not-is_word
-returns-2 c = property_drawer-no _ _ _ c.before.before.before.before.before.before.requires.line _ (line c.before ∙ not-true _ c.if-not-is_word.true)
+returns-2 c = property_drawer-no _ _ _ c.requires.line _ (line c.before ∙ not-true _ c.if-not-is_word.true)
 
 find-properties-end-requires : tie.Need-find_properties_end-requires
-find-properties-end-requires c κs = let o = line_of-order _ _ _ c.before.before.before.before.before.before.requires.line in (o.4, o.5)
+find-properties-end-requires c κs = let o = line_of-order _ _ _ c.requires.line in (o.4, o.5)
 
 returns-3 : tie.Need-returns-in_default
 returns-3 c =
     let at-closer = c.before.before in
     let at-line = at-closer.before in
-    property_drawer-closer _ _ _ at-line.before.before.before.before.before.before.requires.line _ (line at-line.before ∙ not-false _ at-line.if-not-is_word.false) _
+    property_drawer-closer _ _ _ at-line.requires.line _ (line at-line.before ∙ not-false _ at-line.if-not-is_word.false) _
     (sym c.enum_told-1.given.1 ∙ at-closer.find_properties_end.ensures)
 
 add : tie.Need-overflow-add-t15
@@ -60,7 +60,7 @@ add c =
     let ls = lines_in s l.end e in
     omega (
       arith,
-      closer-count l.end ls _ (properties_before-below ls) _ _ _ (sym c.before.start-1.given.1 ∙ at-closer.find_properties_end.ensures),
+      closer-count l.end ls _ (properties_before-below ls) _ _ _ (sym c.start-1.given.1 ∙ at-closer.find_properties_end.ensures),
       lines_in-length s l.end e o.4 o.5,
     )
 
@@ -68,8 +68,8 @@ returns-4 : tie.Need-returns
 returns-4 c =
     let at-closer = c.before.before.before in
     let at-line = at-closer.before in
-    property_drawer-closer _ _ _ at-line.before.before.before.before.before.before.requires.line _ (line at-line.before ∙ not-false _ at-line.if-not-is_word.false) _
-    (sym c.before.start-1.given.1 ∙ at-closer.find_properties_end.ensures)
+    property_drawer-closer _ _ _ at-line.requires.line _ (line at-line.before ∙ not-false _ at-line.if-not-is_word.false) _
+    (sym c.start-1.given.1 ∙ at-closer.find_properties_end.ensures)
 
 pub try_property_drawer_spec : {M : Type 1} → statement M
 try_property_drawer_spec =

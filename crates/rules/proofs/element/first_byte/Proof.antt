@@ -11,16 +11,16 @@ use Rattle.rules.proofs.element.first_byte.Statement.{statement}
 use Rattle.rules.proofs.element.first_byte.Tie as tie
 
 returns : tie.Need-returns-then-line-from
-returns c = ap (λ (x : List ℕ). get_or x 0 0) (sym (part-nil _ _ _ c.if-line-from.true) ∙ line_of-body _ _ _ c.before.before.requires)
+returns c = ap (λ (x : List ℕ). get_or x 0 0) (sym (part-nil _ _ _ c.if-line-from.true) ∙ line_of-body _ _ _ c.requires)
 
 shared-slice-read-result : tie.Need-bounds-text-from
-shared-slice-read-result c = let o = line_of-order _ _ _ c.before.before.before.requires in omega arith
+shared-slice-read-result c = let o = line_of-order _ _ _ c.requires in omega arith
 
 returns-2 : tie.Need-returns-else-line-from
 returns-2 c =
-    let line = c.before.before.before.requires in
+    let line = c.requires in
     let o = line_of-order _ _ _ line in
-    ap (λ (x : List ℕ). get_or x 0 0) (sym (part-cons _ _ _ c.before.if-line-from.false (omega arith)) ∙ line_of-body _ _ _ line)
+    ap (λ (x : List ℕ). get_or x 0 0) (sym (part-cons _ _ _ c.if-line-from.false (omega arith)) ∙ line_of-body _ _ _ line)
 
 pub first_byte_spec : {M : Type 1} → statement M
 first_byte_spec = tie.close (tie.spec shared-slice-read-result returns returns-2)

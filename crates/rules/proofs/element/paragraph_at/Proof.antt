@@ -20,16 +20,16 @@ use Rattle.rules.proofs.element.paragraph_at.Tie as tie
 
 -- what is known after its first line
 
-ends : (c : tie.Joined-first-eq58) → let args = c.before.before.before.args in
+ends : (c : tie.Joined-first-eq58) → let args = c.args in
     c.if-first-eq58.ends ≡ false → NoLine (word ":end:") args.text.now args.line.end args.scope.end
 ends c z =
-    let pre = c.before.before.before.requires in
+    let pre = c.requires in
     ⊎_elim (λ w. w.1.ensures (sym w.2 ∙ z)) (λ w. (knows-next _ _ _ _ _ pre.line pre.known).ends (sym w.1 ∙ z)) c.if-first-eq58.branch
 
-names : (c : tie.Joined-first-eq35) → let args = c.before.before.before.before.args in
+names : (c : tie.Joined-first-eq35) → let args = c.args in
     Names args.text.now args.line.end args.scope.end c.if-first-eq35.names
 names c x z =
-    let pre = c.before.before.before.before.requires in
+    let pre = c.requires in
     ⊎_elim
     (λ w. w.1.ensures x (sym (ap (λ m. has_name m x) w.2) ∙ z))
     (λ w. (knows-next _ _ _ _ _ pre.line pre.known).names x (sym (ap (λ m. has_name m x) w.1) ∙ z))
@@ -37,7 +37,7 @@ names c x z =
 
 paragraph-lines-requires : tie.Need-paragraph_lines-further-requires
 paragraph-lines-requires c κs =
-    let o = line_of-order _ _ _ c.before.before.before.before.requires.line in
+    let o = line_of-order _ _ _ c.requires.line in
     (o.4, o.5, record { ends = ends c.before; names = names c })
 
 add : tie.Need-overflow-add-t12
@@ -63,7 +63,7 @@ pub paragraph_at_spec : {M : Type 1} → statement M
 paragraph_at_spec =
     tie.close
     (tie.spec
-    (λ c κs. c.before.requires.line)
+    (λ c κs. c.requires.line)
     (λ c κs. search rules)
     (λ c κs. search rules)
     paragraph-lines-requires

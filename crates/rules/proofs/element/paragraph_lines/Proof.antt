@@ -35,13 +35,13 @@ loop-holds c = let start = c.before in (start.requires.0, start.requires.1, star
 -- ---- no line that starts with a byte
 
 returns : tie.Need-returns-after-loop-at invariant-loop-at decreases-loop-at
-returns c = let inv = c.before.loop-at.invariant in (sym (paragraph-none _ _ _ _ c.loop-at-test.false) ∙ inv.3, inv.2)
+returns c = let inv = c.loop-at.invariant in (sym (paragraph-none _ _ _ _ c.loop-at-test.false) ∙ inv.3, inv.2)
 
 returns-2 : tie.Need-returns-then-to-body invariant-loop-at decreases-loop-at
 returns-2 c =
     let at_body = c.before in
     let at_test = at_body.before in
-    let inv = at_test.before.loop-at.invariant in
+    let inv = at_test.loop-at.invariant in
     (sym (paragraph-short _ _ _ at_test.loop-at-test.true inv.1 _ at_body.run_end-body.ensures _ c.if-to-body.true) ∙ inv.3, inv.2)
 
 returns-3 : tie.Need-returns-then-first-eq10 invariant-loop-at decreases-loop-at
@@ -49,7 +49,7 @@ returns-3 c =
     let at_some = c.before.before in
     let at_body = at_some.before in
     let at_test = at_body.before in
-    let inv = at_test.before.loop-at.invariant in
+    let inv = at_test.loop-at.invariant in
     (sym (paragraph-newline _ _ _ at_test.loop-at-test.true inv.1 _ at_body.run_end-body.ensures at_some.if-to-body.false _ c.if-first-eq10.true) ∙ inv.3, inv.2)
 
 -- ---- an item line
@@ -57,21 +57,21 @@ returns-3 c =
 is-item-requires : tie.Need-is_item-requires invariant-loop-at decreases-loop-at
 is-item-requires c κs =
     let at_body = c.before.before.before in
-    let inv = at_body.before.before.loop-at.invariant in
+    let inv = at_body.loop-at.invariant in
     (inv.0, inv.1, indent-run _ _ _ _ at_body.run_end-body.ensures)
 
 not-item : (c : tie.Else-is_item invariant-loop-at decreases-loop-at) →
     let at-loop = c.before.before.before.before.before.before.before in
-    let args = at-loop.before.before.args in
+    let args = at-loop.args in
     is_item (line_in args.text.now at-loop.loop-at.at args.scope.end) ≡ false
-not-item c = sym c.before.is_item.ensures ∙ c.if-is_item.false
+not-item c = sym c.is_item.ensures ∙ c.if-is_item.false
 
 returns-4 : tie.Need-returns-then-is_item invariant-loop-at decreases-loop-at
 returns-4 c =
     let at_item = c.before in
     let at_body = at_item.before.before.before.before in
     let at_test = at_body.before in
-    let inv = at_test.before.loop-at.invariant in
+    let inv = at_test.loop-at.invariant in
     let item = sym at_item.is_item.ensures ∙ c.if-is_item.true in
     (sym (paragraph-item _ _ _ at_test.loop-at-test.true inv.1 _ at_body.run_end-body.ensures _ item) ∙ inv.3, inv.2)
 
@@ -82,30 +82,30 @@ abbrev in-loop : tie.After-line_at-line invariant-loop-at decreases-loop-at → 
 in-loop c = c.before.before.before.before.before.before.before.before.before
 
 -- the line at `at`
-line : (c : tie.After-line_at-line invariant-loop-at decreases-loop-at) → let args = (in-loop c).before.before.before.args in
+line : (c : tie.After-line_at-line invariant-loop-at decreases-loop-at) → let args = (in-loop c).args in
     LineOf args.text.now c.line_at-line.result args.scope.end
-line c = let at_test = in-loop c in line_of _ _ _ _ at_test.loop-at-test.taken at_test.before.loop-at.inv.1 c.line_at-line.ensures
+line c = let at_test = in-loop c in line_of _ _ _ _ at_test.loop-at-test.taken at_test.loop-at.inv.1 c.line_at-line.ensures
 
 -- it starts there
-here : (c : tie.After-line_at-line invariant-loop-at decreases-loop-at) → c.line_at-line.result.start ≡ (in-loop c).before.loop-at.at
+here : (c : tie.After-line_at-line invariant-loop-at decreases-loop-at) → c.line_at-line.result.start ≡ (in-loop c).loop-at.at
 here c = line_span-start _ _ _ _ c.line_at-line.ensures
 
 -- what is known is true of the lines from it on
 known : (c : tie.After-line_at-line invariant-loop-at decreases-loop-at) →
     let at-loop = c.before.before.before.before.before.before.before.before.before.before in
-    let args = at-loop.before.before.args in
+    let args = at-loop.args in
     Knows args.text.now c.line_at-line.result.start args.scope.end at-loop.loop-at.ends at-loop.loop-at.names
-known c = rw (here c) (in-loop c).before.loop-at.invariant.2
+known c = rw (here c) (in-loop c).loop-at.invariant.2
 
 still-no-item : (c : tie.After-line_at-line invariant-loop-at decreases-loop-at) →
-    let args = c.before.before.before.before.before.before.before.before.before.before.before.before.args in
+    let args = c.args in
     is_item (line_in args.text.now c.line_at-line.result.start args.scope.end) ≡ false
 still-no-item c = rw (here c) (not-item c.before.before.before)
 
 next : (c : tie.After-line_at-line invariant-loop-at decreases-loop-at) →
     let at-loop = (in-loop c).before in
-    (at-loop.loop-at.at < c.line_at-line.result.end) × (c.line_at-line.result.end ≤ at-loop.before.before.args.scope.end)
-next c = let at_test = in-loop c in line_span-next _ _ _ _ c.line_at-line.ensures at_test.loop-at-test.taken at_test.before.loop-at.inv.1
+    (at-loop.loop-at.at < c.line_at-line.result.end) × (c.line_at-line.result.end ≤ at-loop.args.scope.end)
+next c = let at_test = in-loop c in line_span-next _ _ _ _ c.line_at-line.ensures at_test.loop-at-test.taken at_test.loop-at.inv.1
 
 returns-5 : tie.Need-returns-then-line invariant-loop-at decreases-loop-at
 returns-5 c =
@@ -136,7 +136,7 @@ names-after-requires c κs = let at-line = c.before.before.before.before.before.
 
 ends : (c : tie.Joined-first-eq58 invariant-loop-at decreases-loop-at) →
     let at-line = c.before.before.before.before.before.before in
-    let args = (in-loop at-line).before.before.before.args in
+    let args = (in-loop at-line).args in
     c.if-first-eq58.ends ≡ false → NoLine (word ":end:") args.text.now at-line.line_at-line.result.end args.scope.end
 ends c z =
     let at-line = c.before.before.before.before.before.before in
@@ -147,7 +147,7 @@ ends c z =
 
 names : (c : tie.Joined-first-eq35 invariant-loop-at decreases-loop-at) →
     let at-line = c.before.before.before.before.before.before.before in
-    let args = (in-loop at-line).before.before.before.args in
+    let args = (in-loop at-line).args in
     Names args.text.now at-line.line_at-line.result.end args.scope.end c.if-first-eq35.names
 names c x z =
     let at-line = c.before.before.before.before.before.before.before in
@@ -172,7 +172,7 @@ loop-again-2 c =
       inv.1,
       record { ends = ends at-ends; names = names c },
       rw (here at-line)
-          at (paragraph-pass _ _ _ (line at-line) _ at-rule.find_rule.ensures at-loop.loop-at.n at_test.if-line.false at-ends.before.enum_told-in_default-1.given.1 no_item)
+          at (paragraph-pass _ _ _ (line at-line) _ at-rule.find_rule.ensures at-loop.loop-at.n at_test.if-line.false at-ends.enum_told-in_default-1.given.1 no_item)
           ∙ inv.3,
       omega (arith, next at-line),
     )
@@ -182,15 +182,15 @@ loop-again-2 c =
 -- it ends where what is left of it past the indentation does
 end : (c : tie.After-line_end-at invariant-loop-at decreases-loop-at) →
     let at-loop = c.before.before.before.before.before.before.before.before.before.before in
-    let args = at-loop.before.before.args in
+    let args = at-loop.args in
     c.line_end-at.result ≡ at-loop.loop-at.at + length (line_in args.text.now at-loop.loop-at.at args.scope.end)
-end c = c.line_end-at.ensures ∙ after-end _ _ _ _ (indent-run _ _ _ _ c.before.before.before.before.before.before.before.before.run_end-body.ensures)
+end c = c.line_end-at.ensures ∙ after-end _ _ _ _ (indent-run _ _ _ _ c.run_end-body.ensures)
 
 loop-less : tie.Need-loop-at-smaller-then-starts_text invariant-loop-at decreases-loop-at
 loop-less c =
     let at_test = c.before.before.before.before.before.before.before.before.before in
-    let args = at_test.before.before.before.args in
-    omega (arith, end c, line_in-some args.text.now at_test.before.loop-at.at args.scope.end at_test.loop-at-test.true at_test.before.loop-at.invariant.1)
+    let args = at_test.args in
+    omega (arith, end c, line_in-some args.text.now at_test.loop-at.at args.scope.end at_test.loop-at-test.true at_test.loop-at.invariant.1)
 
 loop-again : tie.Need-loop-at-preserved-then-starts_text invariant-loop-at decreases-loop-at
 loop-again c =
@@ -200,10 +200,10 @@ loop-again c =
     let at_some = at_byte.before.before in
     let at_body = at_some.before in
     let at_test = at_body.before in
-    let inv = at_test.before.loop-at.invariant in
-    let args = at_test.before.before.before.args in
-    let some = line_in-some args.text.now at_test.before.loop-at.at args.scope.end at_test.loop-at-test.true inv.1 in
-    let plain = at-stop.starts_text.ensures c.before.if-starts_text.true in (
+    let inv = at_test.loop-at.invariant in
+    let args = at_test.args in
+    let some = line_in-some args.text.now at_test.loop-at.at args.scope.end at_test.loop-at-test.true inv.1 in
+    let plain = at-stop.starts_text.ensures c.if-starts_text.true in (
       rw (end c) (line_in-to _ _ _ inv.0 inv.1),
       inv.1,
       rw (end c) (knows_line _ _ _ _ _ inv.2),

@@ -10,12 +10,12 @@ use Rattle.rules.proofs.element.starts_text.Statement.{statement}
 use Rattle.rules.proofs.element.starts_text.Tie as tie
 
 returns : tie.Need-returns-then-b-ge128
-returns c z = text-unwanted _ (rw (le-leb 128 c.before.args.b c.if-b-ge128.true))
+returns c z = text-unwanted _ (rw (le-leb 128 c.args.b c.if-b-ge128.true))
 
 returns-2 : tie.Need-returns-then-is_name
 returns-2 c z =
-    let b = c.before.before.before.args.b in
-    text-unwanted b (rw (sym c.before.is_name.ensures ∙ c.if-is_name.true) (rw z (or-true (leb 128 b))))
+    let b = c.args.b in
+    text-unwanted b (rw (sym c.is_name.ensures ∙ c.if-is_name.true) (rw z (or-true (leb 128 b))))
 
 returns-3 : tie.Need-returns-else-is_name
 returns-3 c z = absurd (false≢true (sym c.if-is_name.false ∙ z))

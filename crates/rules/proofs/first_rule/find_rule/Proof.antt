@@ -28,28 +28,28 @@ returns c =
     rw (first_of-none (lines_in start.args.text.now start.args.line.start start.args.scope.end) start.args.scope.place 0 n refl)
 
 -- the first byte
-first : (c : tie.Else-line-from) → let args = c.before.before.before.args in
+first : (c : tie.Else-line-from) → let args = c.args in
     first_at (lines_in args.text.now args.line.start args.scope.end) ≡ lower (get_or args.text.now args.line.from 0)
-first c = first_some _ _ _ c.before.before.before.requires.line c.if-line-from.false
+first c = first_some _ _ _ c.requires.line c.if-line-from.false
 
 shared-slice-read-first : tie.Need-bounds-text-from
-shared-slice-read-first c = let o = line_of-order _ _ _ c.before.before.before.before.requires.line in omega arith
+shared-slice-read-first c = let o = line_of-order _ _ _ c.requires.line in omega arith
 
 returns-2 : tie.Need-returns-in-58
 unfolding lower
-returns-2 c = rw (first_of-byte _ _ 58 (first c.before.before.before ∙ ap lower c.before.in-83-1.keys2)) c.try_colon.ensures
+returns-2 c = rw (first_of-byte _ _ 58 (first c.before.before.before ∙ ap lower c.in-83-1.keys2)) c.try_colon.ensures
 
 returns-3 : tie.Need-returns-in-35
 unfolding lower
-returns-3 c = rw (first_of-byte _ _ 35 (first c.before.before.before ∙ ap lower c.before.in-83-1.keys3)) c.try_hash.ensures
+returns-3 c = rw (first_of-byte _ _ 35 (first c.before.before.before ∙ ap lower c.in-83-1.keys3)) c.try_hash.ensures
 
 returns-4 : tie.Need-returns-in-124
 unfolding lower wanting is_in rules1to9 rules3to9 word
-returns-4 c = rw (first_of-only _ _ 124 (rule (word "|") table) refl (first c.before.before.before ∙ ap lower c.before.in-83-1.keys4)) c.try_table.ensures
+returns-4 c = rw (first_of-only _ _ 124 (rule (word "|") table) refl (first c.before.before.before ∙ ap lower c.in-83-1.keys4)) c.try_table.ensures
 
 returns-5 : tie.Need-returns-in-45
 unfolding lower wanting is_in rules1to9 rules3to9 word
-returns-5 c = rw (first_of-only _ _ 45 (rule (word "-") horizontal_rule) refl (first c.before.before.before ∙ ap lower c.before.in-83-1.keys5)) c.try_horizontal_rule.ensures
+returns-5 c = rw (first_of-only _ _ 45 (rule (word "-") horizontal_rule) refl (first c.before.before.before ∙ ap lower c.in-83-1.keys5)) c.try_horizontal_rule.ensures
 
 -- a byte of no arm is one that no rule wants
 module _ (b : ℕ) (c : b ≡ 67 → ⊥) (d : b ≡ 68 → ⊥) (s : b ≡ 83 → ⊥) (c' : b ≡ 99 → ⊥) (d' : b ≡ 100 → ⊥) (s' : b ≡ 115 → ⊥) where
@@ -62,7 +62,7 @@ module _ (b : ℕ) (c : b ≡ 67 → ⊥) (d : b ≡ 68 → ⊥) (s : b ≡ 83 �
 
 -- neither a key nor in a range
 rest : (c : tie.In_default-1) →
-    let args = c.before.before.before.before.before.args in
+    let args = c.args in
     let s = args.text.now in
     let b = get_or s args.line.from 0 in
     let ls = lines_in s args.line.start args.scope.end in
@@ -93,7 +93,7 @@ returns-9 c =
     let n =
     ⊎_elim (λ w. planning-s b w.keys1)
     (⊎_elim (λ w. planning-upper b w.1.left w.2.taken) (λ w. planning-small b w.3.left w.4.taken))
-    c.before.in-83-1.branch in
+    c.in-83-1.branch in
     rw (first_of-letter _ _ (ap (λ (a : ℕ). is_in a (word "cds")) (first at_byte.before) ∙ n)) c.try_planning.ensures
 
 pub find_rule_spec : {M : Type 1} → statement M

@@ -12,27 +12,27 @@ use Rattle.rules.proofs.first_rule.try_colon.Tie as tie
 
 returns : tie.Need-returns-in-Holds
 unfolding wanting is_in rules1to9 rules3to9 word
-returns c = first_of-holds _ _ _ _ _ (sym c.before.e-1.given.1 ∙ c.before.before.before.try_property_drawer.ensures)
+returns c = first_of-holds _ _ _ _ _ (sym c.e-1.given.1 ∙ c.try_property_drawer.ensures)
 
 returns-2 : tie.Need-returns-in-Holds-try_drawer
 unfolding wanting is_in rules1to9 rules3to9 word
 returns-2 c =
     let at_second = c.before.before.before in
     let at_first = at_second.before.before.before in
-    first_of-holds _ _ _ _ _ (sym c.before.e-in-Holds-try_drawer-1.given.1 ∙ at_second.try_drawer.ensures)
-    ∙ first_of-fails _ _ _ _ (sym at_second.before.enum_told-1.given.1 ∙ at_first.try_property_drawer.ensures)
+    first_of-holds _ _ _ _ _ (sym c.e-in-Holds-try_drawer-1.given.1 ∙ at_second.try_drawer.ensures)
+    ∙ first_of-fails _ _ _ _ (sym at_second.enum_told-1.given.1 ∙ at_first.try_property_drawer.ensures)
 
 try-run-requires : tie.Need-try_run-requires
 unfolding inner_of
-try-run-requires c κs = (c.before.before.before.before.before.before.before.requires, refl)
+try-run-requires c κs = (c.requires, refl)
 
 returns-3 : tie.Need-returns
 unfolding wanting is_in rules1to9 rules3to9 word fixed_width
 returns-3 c =
     let at_second = c.before.before.before in
     let at_first = at_second.before.before.before in
-    let first = sym at_second.before.enum_told-1.given.1 ∙ at_first.try_property_drawer.ensures in
-    let second = sym c.before.enum_told-in_default-try_drawer-1.given.1 ∙ at_second.try_drawer.ensures in
+    let first = sym at_second.enum_told-1.given.1 ∙ at_first.try_property_drawer.ensures in
+    let second = sym c.enum_told-in_default-try_drawer-1.given.1 ∙ at_second.try_drawer.ensures in
     c.try_run.ensures ∙ first_of-last _ _ _ ∙ first_of-fails _ _ _ _ second ∙ first_of-fails _ _ _ _ first
 
 pub try_colon_spec : {M : Type 1} → statement M

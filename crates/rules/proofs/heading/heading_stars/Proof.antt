@@ -11,14 +11,14 @@ use Rattle.rules.proofs.heading.heading_stars.Tie as tie
 returns : tie.Need-returns-then-text-end-eq32
 returns c =
     let at_test = c.before.before in
-    sym (heading_stars-here _ _ _ _ at_test.before.run_end-end.ensures at_test.if-end-to.true (eqb-true _ 32 c.if-text-end-eq32.true))
+    sym (heading_stars-here _ _ _ _ at_test.run_end-end.ensures at_test.if-end-to.true (eqb-true _ 32 c.if-text-end-eq32.true))
 
 returns-2 : tie.Need-returns-else-end-to
 returns-2 c =
     let at_call = c.before in
     ⊎_elim
     (λ w. sym (heading_stars-other _ _ _ _ at_call.run_end-end.ensures w.0.taken (eqb-false _ 32 w.2.left)))
-    (λ w. sym (heading_stars-end _ _ _ _ at_call.run_end-end.ensures at_call.before.before.requires.1 w.left))
+    (λ w. sym (heading_stars-end _ _ _ _ at_call.run_end-end.ensures at_call.requires.1 w.left))
     c.if-end-to.branch
 
 pub heading_stars_spec : {M : Type 1} → statement M

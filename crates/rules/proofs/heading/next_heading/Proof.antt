@@ -39,7 +39,7 @@ loop-again c =
     let at-loop = at_call.before.before in
     let star = c.next_star_line-at.ensures in
     let other =
-    on c.before.if-stars-gt0.branch
+    on c.if-stars-gt0.branch
     (λ w. up_to-over _ _ _ at_call.heading_stars-stars.ensures (leb-false _ _ w.1.left))
     (λ w. up_to-none _ _ _ at_call.heading_stars-stars.ensures w.left) in
     (star.to, sym (next_line-star _ _ _ _ other star) ∙ at-loop.loop-at.invariant.1)

@@ -20,7 +20,7 @@ returns : tie.Need-returns-then-k-lt64 invariant-loop-i decreases-loop-i
 returns c =
     let at_call = c.before in
     let at-loop = at_call.before.before.before.before in
-    let s = at-loop.before.before.args.text.now in
+    let s = at-loop.args.text.now in
     let i = at-loop.loop-i.i in
     let k = at_call.star_line_in-k.result in
     record {
@@ -36,7 +36,7 @@ loop-again : tie.Need-loop-i-preserved invariant-loop-i decreases-loop-i
 loop-again c =
     let at_call = c.before in
     let at-loop = at_call.before.before in
-    let s = at-loop.before.before.args.text.now in
+    let s = at-loop.args.text.now in
     let i = at-loop.loop-i.i in (
       omega arith,
       omega arith,
@@ -49,7 +49,7 @@ loop-again c =
 returns-2 : tie.Need-returns invariant-loop-i decreases-loop-i
 returns-2 c =
     let at-loop = c.before.before in
-    let s = at-loop.before.before.args.text.now in
+    let s = at-loop.args.text.now in
     let rest = c.star_line_by_bytes.ensures in
     record {
       from = omega arith;

@@ -32,7 +32,7 @@ returns c =
 loop-again : tie.Need-loop-i-preserved invariant-loop-i decreases-loop-i
 loop-again c =
     let at-loop = c.before.before.before in
-    let s = at-loop.before.args.text.now in
+    let s = at-loop.args.text.now in
     let i = at-loop.loop-i.i in (
       omega arith,
       omega arith,
@@ -42,7 +42,7 @@ loop-again c =
     )
 
 returns-2 : tie.Need-returns invariant-loop-i decreases-loop-i
-returns-2 c = record { from = omega arith; to = omega arith; none = c.before.loop-i.invariant.2; here = λ h. absurd (omega arith) }
+returns-2 c = record { from = omega arith; to = omega arith; none = c.loop-i.invariant.2; here = λ h. absurd (omega arith) }
 
 pub star_line_by_bytes_spec : {M : Type 1} → statement M
 star_line_by_bytes_spec =

@@ -39,20 +39,20 @@ loop-again c =
     let none = at-loop.loop-j.invariant.1.2 in (
       omega arith,
       on c.if-here-first.branch
-          (λ w. on c.before.if-text-at.branch
+          (λ w. on c.if-text-at.branch
           (λ v. (omega arith, λ h. (omega arith, rw (w.1 ∙ v.1) (test-yes _ _ v.0.taken)), λ k h l. none k (omega arith) (omega arith)))
           (λ v. (omega arith, λ h. absurd (omega arith), below_more _ _ (λ k h l. none k h (omega arith)) (λ l. test-no _ _ v.0.left))))
           (λ w. (
             omega arith,
             λ h. let f = found (omega arith) in (omega arith, rw w.1 f.1),
-            on c.before.if-text-at.branch
+            on c.if-text-at.branch
                 (λ v k h l. none k (omega arith) (omega arith))
                 (λ v. below_more _ _ (λ k h l. none k h (omega arith)) (λ l. test-no _ _ v.0.left)),
           )),
     )
 
 returns : tie.Need-returns invariant-loop-j decreases-loop-j
-returns c = (λ h. (c.before.loop-j.invariant.1.1 h).1, λ k h l. c.before.loop-j.invariant.1.2 k (omega arith) l)
+returns c = (λ h. (c.loop-j.invariant.1.1 h).1, λ k h l. c.loop-j.invariant.1.2 k (omega arith) l)
 
 pub star_line_in_spec : {M : Type 1} → statement M
 star_line_in_spec =

@@ -15,13 +15,13 @@ first = after_byte is_box_byte ∷ after_byte (is_byte 93) ∷ ended ∷ []
 returns : tie.Need-returns-in_default
 unfolding after_box
 returns c =
-    let g = rw c.enum_told-1.given.1 at c.before.before.after_byte.ensures in
+    let g = rw c.enum_told-1.given.1 at c.after_byte.ensures in
     leaves_none _ _ _ (after_byte (is_byte 91)) first g
 
 after-byte-requires-2 : tie.Need-after_byte-requires-2
 after-byte-requires-2 c κs =
     let at_a = c.before in
-    let g = rw at_a.a-1.given.1 at at_a.before.before.after_byte.ensures in
+    let g = rw at_a.a-1.given.1 at at_a.after_byte.ensures in
     omega arith
 
 returns-2 : tie.Need-returns-in_default-after_byte
@@ -29,14 +29,14 @@ unfolding after_box
 returns-2 c =
     let at-check = c.before.before in
     let at_a = at-check.before.before in
-    let g = rw at_a.a-1.given.1 at at_a.before.before.after_byte.ensures in
+    let g = rw at_a.a-1.given.1 at at_a.after_byte.ensures in
     let h = rw c.enum_told-in_default-after_byte-1.given.1 at at-check.after_byte-2.ensures in
     leaves-then _ _ _ (after_byte (is_byte 91)) first _ _ g (leaves_none _ _ _ (after_byte is_box_byte) (after_byte (is_byte 93) ∷ ended ∷ []) h)
 
 after-last-requires : tie.Need-after_last-requires
 after-last-requires c κs =
     let at_b = c.before in
-    let g = rw at_b.b-1.given.1 at at_b.before.before.after_byte-2.ensures in
+    let g = rw at_b.b-1.given.1 at at_b.after_byte-2.ensures in
     omega arith
 
 returns-3 : tie.Need-returns
@@ -45,7 +45,7 @@ returns-3 c =
     let at_b = c.before.before in
     let at-check = at_b.before.before in
     let at_a = at-check.before.before in
-    let g = rw at_a.a-1.given.1 at at_a.before.before.after_byte.ensures in
+    let g = rw at_a.a-1.given.1 at at_a.after_byte.ensures in
     let h = rw at_b.b-1.given.1 at at-check.after_byte-2.ensures in
     leaves-then _ _ _ (after_byte (is_byte 91)) first _ _ g
     (leaves-then _ _ _ (after_byte is_box_byte) (after_byte (is_byte 93) ∷ ended ∷ []) _ _ h c.after_last.ensures)

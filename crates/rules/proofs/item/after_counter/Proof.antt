@@ -14,22 +14,22 @@ returns-2 : tie.Need-returns-then-is_letter
 returns-2 c =
     let at-letter = c.before in
     let at_some = at-letter.before.before in
-    counter-letter _ _ _ at_some.if-to-at.false at_some.before.before.requires.1 (sym at-letter.is_letter.ensures ∙ c.if-is_letter.true)
+    counter-letter _ _ _ at_some.if-to-at.false at_some.requires.1 (sym at-letter.is_letter.ensures ∙ c.if-is_letter.true)
 
 returns-3 : tie.Need-returns-then-is_digit
 returns-3 c =
     let at-digit = c.before.before in
     let at-letter = at-digit.before.before in
     let at_some = at-letter.before.before in
-    counter-digits _ _ _ at_some.if-to-at.false at_some.before.before.requires.1 (sym at-letter.is_letter.ensures ∙ at-digit.before.if-is_letter.false)
-    (sym at-digit.is_digit.ensures ∙ c.before.if-is_digit.true) _ c.run_end.ensures
+    counter-digits _ _ _ at_some.if-to-at.false at_some.requires.1 (sym at-letter.is_letter.ensures ∙ at-digit.if-is_letter.false)
+    (sym at-digit.is_digit.ensures ∙ c.if-is_digit.true) _ c.run_end.ensures
 
 returns-4 : tie.Need-returns
 returns-4 c =
     let at-digit = c.before in
     let at-letter = at-digit.before.before in
     let at_some = at-letter.before.before in
-    counter-other _ _ _ at_some.if-to-at.false at_some.before.before.requires.1 (sym at-letter.is_letter.ensures ∙ at-digit.before.if-is_letter.false)
+    counter-other _ _ _ at_some.if-to-at.false at_some.requires.1 (sym at-letter.is_letter.ensures ∙ at-digit.if-is_letter.false)
     (sym at-digit.is_digit.ensures ∙ c.if-is_digit.false)
 
 pub after_counter_spec : {M : Type 1} → statement M

@@ -12,21 +12,21 @@ use Rattle.rules.proofs.item.after_last.Tie as tie
 returns : tie.Need-returns-in_default
 returns c =
     let at_byte = c.before.before in
-    let class = at_byte.before.before.args.class in
+    let class = at_byte.args.class in
     let g = rw c.enum_told-1.given.1 at at_byte.after_byte.ensures in
     leaves_none _ _ _ (after_byte (item_test class)) (ended ∷ []) g
 
 if-ended-requires : tie.Need-if_ended-requires
 if-ended-requires c κs =
     let at_a = c.before in
-    let g = rw at_a.a-1.given.1 at at_a.before.before.after_byte.ensures in
+    let g = rw at_a.a-1.given.1 at at_a.after_byte.ensures in
     omega arith
 
 returns-2 : tie.Need-returns
 returns-2 c =
     let at_a = c.before.before in
     let at_byte = at_a.before.before in
-    let class = at_byte.before.before.args.class in
+    let class = at_byte.args.class in
     let g = rw at_a.a-1.given.1 at at_byte.after_byte.ensures in
     leaves-then _ _ _ (after_byte (item_test class)) (ended ∷ []) _ _ g (leaves_last _ _ _ ended _ c.if_ended.ensures)
 

@@ -11,20 +11,20 @@ use Rattle.rules.proofs.item.after_number.Tie as tie
 returns : tie.Need-returns-in_default
 unfolding after_number
 returns c =
-    let g = rw c.enum_told-1.given.1 at c.before.before.after_counter.ensures in
+    let g = rw c.enum_told-1.given.1 at c.after_counter.ensures in
     leaves_none _ _ _ after_counter (after_byte is_mark ∷ ended ∷ []) g
 
 after-last-requires : tie.Need-after_last-requires
 after-last-requires c κs =
     let at_a = c.before in
-    let g = rw at_a.a-1.given.1 at at_a.before.before.after_counter.ensures in
+    let g = rw at_a.a-1.given.1 at at_a.after_counter.ensures in
     omega arith
 
 returns-2 : tie.Need-returns
 unfolding after_number
 returns-2 c =
     let at_a = c.before.before in
-    let g = rw at_a.a-1.given.1 at at_a.before.before.after_counter.ensures in
+    let g = rw at_a.a-1.given.1 at at_a.after_counter.ensures in
     leaves-then _ _ _ after_counter (after_byte is_mark ∷ ended ∷ []) _ _ g c.after_last.ensures
 
 pub after_number_spec : {M : Type 1} → statement M

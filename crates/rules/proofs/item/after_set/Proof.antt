@@ -18,13 +18,13 @@ first = after_byte (is_byte 64) ∷ second
 returns : tie.Need-returns-in_default
 unfolding after_set
 returns c =
-    let g = rw c.enum_told-1.given.1 at c.before.before.after_byte.ensures in
+    let g = rw c.enum_told-1.given.1 at c.after_byte.ensures in
     leaves_none _ _ _ (after_byte (is_byte 91)) first g
 
 after-byte-requires-2 : tie.Need-after_byte-requires-2
 after-byte-requires-2 c κs =
     let at_a = c.before in
-    let g = rw at_a.a-1.given.1 at at_a.before.before.after_byte.ensures in
+    let g = rw at_a.a-1.given.1 at at_a.after_byte.ensures in
     omega arith
 
 returns-2 : tie.Need-returns-in_default-after_byte
@@ -32,14 +32,14 @@ unfolding after_set
 returns-2 c =
     let at_sign = c.before.before in
     let at_a = at_sign.before.before in
-    let g = rw at_a.a-1.given.1 at at_a.before.before.after_byte.ensures in
+    let g = rw at_a.a-1.given.1 at at_a.after_byte.ensures in
     let h = rw c.enum_told-in_default-after_byte-1.given.1 at at_sign.after_byte-2.ensures in
     leaves-then _ _ _ (after_byte (is_byte 91)) first _ _ g (leaves_none _ _ _ (after_byte (is_byte 64)) second h)
 
 after-counter-requires : tie.Need-after_counter-requires
 after-counter-requires c κs =
     let at_b = c.before in
-    let g = rw at_b.b-1.given.1 at at_b.before.before.after_byte-2.ensures in
+    let g = rw at_b.b-1.given.1 at at_b.after_byte-2.ensures in
     omega arith
 
 returns-3 : tie.Need-returns-in_default-after_counter
@@ -49,7 +49,7 @@ returns-3 c =
     let at_b = at-counter.before.before in
     let at_sign = at_b.before.before in
     let at_a = at_sign.before.before in
-    let g = rw at_a.a-1.given.1 at at_a.before.before.after_byte.ensures in
+    let g = rw at_a.a-1.given.1 at at_a.after_byte.ensures in
     let h = rw at_b.b-1.given.1 at at_sign.after_byte-2.ensures in
     let k = rw c.enum_told-in_default-after_counter-1.given.1 at at-counter.after_counter.ensures in
     leaves-then _ _ _ (after_byte (is_byte 91)) first _ _ g
@@ -72,7 +72,7 @@ returns-4 c =
     let at_b = at-counter.before.before in
     let at_sign = at_b.before.before in
     let at_a = at_sign.before.before in
-    let g = rw at_a.a-1.given.1 at at_a.before.before.after_byte.ensures in
+    let g = rw at_a.a-1.given.1 at at_a.after_byte.ensures in
     let h = rw at_b.b-1.given.1 at at_sign.after_byte-2.ensures in
     let k = rw at_c.c-1.given.1 at at-counter.after_counter.ensures in
     leaves-then _ _ _ (after_byte (is_byte 91)) first _ _ g

@@ -11,7 +11,7 @@ use Rattle.rules.proofs.item.after_sign.Tie as tie
 
 returns : tie.Need-returns-then-to-at
 returns c =
-    let test = is_sign c.before.before.args.indented in
+    let test = is_sign c.args.indented in
     leaves_none _ _ _ (after_byte test) (ended ∷ []) (byte-none _ _ _ test c.if-to-at.true)
 
 returns-2 : tie.Need-returns-then-not-is_sign

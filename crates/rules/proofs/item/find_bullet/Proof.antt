@@ -8,7 +8,7 @@ use Rattle.rules.proofs.item.find_bullet.Tie as tie
 
 after-sign-requires : tie.Need-after_sign-requires
 after-sign-requires c κs =
-    let pre = c.before.requires in
+    let pre = c.requires in
     let o = body-on _ _ _ _ pre.2 pre.0 pre.1 in
     omega arith
 
@@ -16,13 +16,13 @@ returns : tie.Need-returns-in-At
 returns c =
     let at_a = c.before in
     let at_sign = at_a.before.before in
-    let pre = at_sign.before.before.requires in
+    let pre = at_sign.requires in
     let g = rw at_a.a-1.given.1 at at_sign.after_sign.ensures in
     bullet-sign _ _ _ _ pre.2 pre.0 pre.1 _ g
 
 after-number-requires : tie.Need-after_number-requires
 after-number-requires c κs =
-    let pre = c.before.before.before.before.requires in
+    let pre = c.requires in
     let o = body-on _ _ _ _ pre.2 pre.0 pre.1 in
     omega arith
 
@@ -31,7 +31,7 @@ returns-2 c =
     let at-number = c.before.before in
     let at_none = at-number.before in
     let at_sign = at_none.before.before in
-    let pre = at_sign.before.before.requires in
+    let pre = at_sign.requires in
     let g = rw at_none.enum_told-1.given.1 at at_sign.after_sign.ensures in
     let h = rw c.enum_told-in_default-after_number-1.given.1 at at-number.after_number.ensures in
     bullet-nothing _ _ _ _ pre.2 pre.0 pre.1 g h
@@ -42,7 +42,7 @@ returns-3 c =
     let at-number = at_a.before.before in
     let at_none = at-number.before in
     let at_sign = at_none.before.before in
-    let pre = at_sign.before.before.requires in
+    let pre = at_sign.requires in
     let g = rw at_none.enum_told-1.given.1 at at_sign.after_sign.ensures in
     let h = rw at_a.a-in-At-after_number-1.given.1 at at-number.after_number.ensures in
     bullet-number _ _ _ _ pre.2 pre.0 pre.1 _ g h

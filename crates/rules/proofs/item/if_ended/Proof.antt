@@ -7,19 +7,19 @@ use Rattle.rules.proofs.item.if_ended.Statement.{statement}
 use Rattle.rules.proofs.item.if_ended.Tie as tie
 
 returns : tie.Need-returns-then-to-at
-returns c = ended-end _ _ _ c.before.before.requires.0 c.if-to-at.true
+returns c = ended-end _ _ _ c.requires.0 c.if-to-at.true
 
 returns-2 : tie.Need-returns-then-is_nonblank
 returns-2 c =
     let at_call = c.before in
     let at_some = at_call.before.before in
-    ended-no _ _ _ at_some.if-to-at.false at_some.before.before.requires.1 (sym at_call.is_nonblank.ensures ∙ c.if-is_nonblank.true)
+    ended-no _ _ _ at_some.if-to-at.false at_some.requires.1 (sym at_call.is_nonblank.ensures ∙ c.if-is_nonblank.true)
 
 returns-3 : tie.Need-returns
 returns-3 c =
     let at_call = c.before in
     let at_some = at_call.before.before in
-    ended-yes _ _ _ at_some.if-to-at.false at_some.before.before.requires.1 (sym at_call.is_nonblank.ensures ∙ c.if-is_nonblank.false)
+    ended-yes _ _ _ at_some.if-to-at.false at_some.requires.1 (sym at_call.is_nonblank.ensures ∙ c.if-is_nonblank.false)
 
 pub if_ended_spec : {M : Type 1} → statement M
 if_ended_spec =

@@ -6,7 +6,7 @@ use Rattle.rules.proofs.item.is_item_byte.Statement.{statement}
 use Rattle.rules.proofs.item.is_item_byte.Tie as tie
 
 returns : tie.Need-returns-in-Stop
-returns c = rw c.before.enum_told-1.given.1 c.is_stop.ensures
+returns c = rw c.enum_told-1.given.1 c.is_stop.ensures
 
 returns-2 : tie.Need-returns-in-Opening
 unfolding is_byte
@@ -17,7 +17,7 @@ unfolding is_byte
 returns-3 c = rw c.enum_told-in-AtSign-1.given.1
 
 returns-4 : tie.Need-returns-in-Check
-returns-4 c = rw c.before.enum_told-in-Check-1.given.1 c.is_check.ensures
+returns-4 c = rw c.enum_told-in-Check-1.given.1 c.is_check.ensures
 
 returns-5 : tie.Need-returns-in-Closing
 unfolding is_byte

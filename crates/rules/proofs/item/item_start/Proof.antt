@@ -12,7 +12,7 @@ use Rattle.rules.proofs.item.item_start.Tie as tie
 after-set-requires : tie.Need-after_set-requires
 unfolding is_blank
 after-set-requires c κs =
-    let pre = c.before.before.requires in
+    let pre = c.requires in
     let o = on_line-run _ _ _ is_blank refl _ c.run_end-a.ensures pre.0 pre.1 in
     omega arith
 
@@ -21,7 +21,7 @@ unfolding is_blank
 run-end-requires-2 c κs =
     let at_set = c.before in
     let at_a = at_set.before in
-    let pre = at_a.before.before.requires in
+    let pre = at_a.requires in
     let k = pre.1 in
     let o = on_line-run _ _ _ is_blank refl _ at_a.run_end-a.ensures pre.0 pre.1 in
     (stay-to _ _ _ o.to k after_set _ at_set.after_set.ensures _ c.or_stay.ensures, k)
@@ -31,10 +31,10 @@ unfolding is_blank
 after-box-requires c κs =
     let at_set = c.before.before in
     let at_a = at_set.before in
-    let pre = at_a.before.before.requires in
+    let pre = at_a.requires in
     let k = pre.1 in
     let o = on_line-run _ _ _ is_blank refl _ at_a.run_end-a.ensures pre.0 k in
-    let set = past-line _ _ _ o.to k after_set _ at_set.after_set.ensures _ c.before.or_stay.ensures _ c.run_end-b.ensures in
+    let set = past-line _ _ _ o.to k after_set _ at_set.after_set.ensures _ c.or_stay.ensures _ c.run_end-b.ensures in
     (set.1.to, k)
 
 run-end-requires-3 : tie.Need-run_end-requires
@@ -44,10 +44,10 @@ run-end-requires-3 c κs =
     let at_b = at-box.before in
     let at_set = at_b.before.before in
     let at_a = at_set.before in
-    let pre = at_a.before.before.requires in
+    let pre = at_a.requires in
     let k = pre.1 in
     let o = on_line-run _ _ _ is_blank refl _ at_a.run_end-a.ensures pre.0 k in
-    let set = past-line _ _ _ o.to k after_set _ at_set.after_set.ensures _ at_b.before.or_stay.ensures _ at_b.run_end-b.ensures in
+    let set = past-line _ _ _ o.to k after_set _ at_set.after_set.ensures _ at_b.or_stay.ensures _ at_b.run_end-b.ensures in
     (stay-to _ _ _ set.1.to k after_box _ at-box.after_box.ensures _ c.or_stay-2.ensures, k)
 
 returns : tie.Need-returns
@@ -57,11 +57,11 @@ returns c =
     let at_b = at-box.before in
     let at_set = at_b.before.before in
     let at_a = at_set.before in
-    let pre = at_a.before.before.requires in
+    let pre = at_a.requires in
     let k = pre.1 in
     let o = on_line-run _ _ _ is_blank refl _ at_a.run_end-a.ensures pre.0 k in
-    let set = past-line _ _ _ o.to k after_set _ at_set.after_set.ensures _ at_b.before.or_stay.ensures _ at_b.run_end-b.ensures in
-    let box = past-line _ _ _ set.1.to k after_box _ at-box.after_box.ensures _ c.before.or_stay-2.ensures _ c.run_end.ensures in
+    let set = past-line _ _ _ o.to k after_set _ at_set.after_set.ensures _ at_b.or_stay.ensures _ at_b.run_end-b.ensures in
+    let box = past-line _ _ _ set.1.to k after_box _ at-box.after_box.ensures _ c.or_stay-2.ensures _ c.run_end.ensures in
     marks_line _ _ _ _ _ _ o (after_run-line _ _ _ is_blank refl _ at_a.run_end-a.ensures) set box
 
 pub item_start_spec : {M : Type 1} → statement M

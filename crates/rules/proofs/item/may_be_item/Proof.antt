@@ -12,27 +12,27 @@ use Rattle.rules.proofs.item.may_be_item.Statement.{statement}
 use Rattle.rules.proofs.item.may_be_item.Tie as tie
 
 -- past the first test
-outside : (c : tie.Joined-else-first-ge42) → let a = c.before.before.args in Outside 42 45 (get_or a.text.now a.body 0)
+outside : (c : tie.Joined-else-first-ge42) → let a = c.args in Outside 42 45 (get_or a.text.now a.body 0)
 outside c = on c.if-first-ge42.branch (λ w. inl (omega (arith, leb-false))) (λ w. inr w.left)
 
 returns-2 : tie.Need-returns-then-to-body
 returns-2 c p h z =
     let at_first = c.before in
-    let pre = at_first.before.before.requires in
+    let pre = at_first.requires in
     item-one-byte _ _ _ _ h pre.0 pre.1 (outside at_first) c.if-to-body.true
 
 returns-3 : tie.Need-returns-then-second-ge41
 returns-3 c p h z =
     let at_more = c.before.before in
     let at_first = at_more.before in
-    let pre = at_first.before.before.requires in
+    let pre = at_first.requires in
     item-two-bytes _ _ _ _ h pre.0 pre.1 (outside at_first) at_more.if-to-body.false (inl (leb-false _ _ z))
 
 returns-4 : tie.Need-returns-else-second-ge41
 returns-4 c p h z =
     let at_more = c.before.before in
     let at_first = at_more.before in
-    let pre = at_first.before.before.requires in
+    let pre = at_first.requires in
     item-two-bytes _ _ _ _ h pre.0 pre.1 (outside at_first) at_more.if-to-body.false (inr c.if-second-ge41.false)
 
 pub may_be_item_spec : {M : Type 1} → statement M

@@ -22,20 +22,20 @@ returns : tie.Need-returns-then-text-i-eq58 invariant-loop-i decreases-loop-i
 returns c =
     let at_test = c.before.before in
     let at-loop = at_test.before in
-    let args = at-loop.before.args in
+    let args = at-loop.args in
     omega (arith, through_colon-part-here args.text.now args.from at-loop.loop-i.i at_test.loop-i-test.true at-loop.loop-i.invariant.1 c.if-text-i-eq58.true)
 
 loop-again : tie.Need-loop-i-preserved invariant-loop-i decreases-loop-i
 loop-again c =
     let at_test = c.before.before in
     let at-loop = at_test.before in
-    let args = at-loop.before.args in
+    let args = at-loop.args in
     omega (arith, through_colon-part-skip args.text.now args.from at-loop.loop-i.i at_test.loop-i-test.true at-loop.loop-i.invariant.1 c.if-text-i-eq58.false)
 
 returns-2 : tie.Need-returns invariant-loop-i decreases-loop-i
 returns-2 c =
     let at-loop = c.before in
-    let args = at-loop.before.args in
+    let args = at-loop.args in
     omega (arith, through_colon-part-nil args.text.now args.from at-loop.loop-i.i c.loop-i-test.false)
 
 pub after_last_colon_spec : {M : Type 1} → statement M

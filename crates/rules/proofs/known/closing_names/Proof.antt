@@ -21,29 +21,29 @@ decreases-loop-at text from to at₀ names₀ t at names = to - at
 
 -- the next line starts further on, and not past the end
 next : (c : tie.After-line_at-line invariant-loop-at decreases-loop-at) → let at-loop = c.before.before in
-    (at-loop.loop-at.at < c.line_at-line.result.end) × (c.line_at-line.result.end ≤ at-loop.before.before.args.to)
+    (at-loop.loop-at.at < c.line_at-line.result.end) × (c.line_at-line.result.end ≤ at-loop.args.to)
 next c =
     let at_test = c.before in
-    line_span-next _ _ _ _ c.line_at-line.ensures at_test.loop-at-test.true at_test.before.loop-at.invariant.1
+    line_span-next _ _ _ _ c.line_at-line.ensures at_test.loop-at-test.true at_test.loop-at.invariant.1
 
 begins-with-requires : tie.Need-begins_with-requires invariant-loop-at decreases-loop-at
 begins-with-requires c κs =
     let at-line = c.before in
     let at_test = at-line.before in
-    let o = line_of-order _ _ _ (line_of _ _ _ _ at_test.loop-at-test.true at_test.before.loop-at.invariant.1 at-line.line_at-line.ensures) in
+    let o = line_of-order _ _ _ (line_of _ _ _ _ at_test.loop-at-test.true at_test.loop-at.invariant.1 at-line.line_at-line.ensures) in
     (o.1, omega arith)
 
 -- where the name stands
 name : (c : tie.Then-begins_with invariant-loop-at decreases-loop-at) →
     let at-line = c.before.before.before in
     let line = at-line.line_at-line.result in
-    (line.from + 6 ≤ line.to) × (line.to ≤ length at-line.before.before.before.before.args.text.now)
+    (line.from + 6 ≤ line.to) × (line.to ≤ length at-line.args.text.now)
 unfolding word
 name c =
     let at-begins = c.before in
     let at-line = at-begins.before.before in
     let at_test = at-line.before in
-    end-order _ _ _ _ at-line.line_at-line.ensures at_test.loop-at-test.true at_test.before.loop-at.invariant.1
+    end-order _ _ _ _ at-line.line_at-line.ensures at_test.loop-at-test.true at_test.loop-at.invariant.1
     (sym at-begins.begins_with.ensures ∙ c.if-begins_with.true)
 
 loop-again : tie.Need-loop-at-preserved-then-begins_with invariant-loop-at decreases-loop-at
@@ -54,7 +54,7 @@ loop-again c =
     let at-begins = at-if.before in
     let at-line = at-begins.before.before in
     let at_test = at-line.before in
-    let inv = at_test.before.loop-at.invariant in (
+    let inv = at_test.loop-at.invariant in (
       (next at-line).1,
       inv.1,
       names-one _ _ _ _ at-line.line_at-line.ensures at_test.loop-at-test.true inv.1 (sym at-begins.begins_with.ensures ∙ at-if.if-begins_with.true)
@@ -67,7 +67,7 @@ loop-again-2 c =
     let at-begins = c.before in
     let at-line = at-begins.before.before in
     let at_test = at-line.before in
-    let inv = at_test.before.loop-at.invariant in (
+    let inv = at_test.loop-at.invariant in (
       (next at-line).1,
       inv.1,
       names-other _ _ _ _ at-line.line_at-line.ensures at_test.loop-at-test.true inv.1 (sym at-begins.begins_with.ensures ∙ c.if-begins_with.false) _ _ inv.2,
@@ -90,4 +90,4 @@ closing_names_spec =
     loop-again
     (λ c. omega (arith, next c.before.before.before))
     loop-again-2
-    (λ c. names-all _ _ _ _ _ c.loop-at-test.false c.before.loop-at.invariant.2))
+    (λ c. names-all _ _ _ _ _ c.loop-at-test.false c.loop-at.invariant.2))

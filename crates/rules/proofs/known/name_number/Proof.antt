@@ -26,7 +26,7 @@ loop-holds c = (omega arith, omega arith, omega arith, refl)
 loop-again : tie.Need-loop-i-preserved invariant-loop-i decreases-loop-i
 loop-again c =
     let at_test = c.before.before in
-    let inv = at_test.before.loop-i.invariant in (
+    let inv = at_test.loop-i.invariant in (
       omega arith,
       omega arith,
       omega arith,
@@ -35,7 +35,7 @@ loop-again c =
 
 returns : tie.Need-returns invariant-loop-i decreases-loop-i
 returns c =
-    let inv = c.before.loop-i.invariant in
+    let inv = c.loop-i.invariant in
     (sym (number-end _ _ _ _ c.loop-i-test.false) ∙ inv.3, inv.2)
 
 pub name_number_spec : {M : Type 1} → statement M

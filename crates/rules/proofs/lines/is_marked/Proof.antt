@@ -13,13 +13,13 @@ returns c = sym (is_marked-none _ _ _ _ c.if-to-at.true)
 returns-2 : tie.Need-returns-then-text-at
 returns-2 c =
     let at_some = c.before.before in
-    sym (is_marked-no _ _ _ _ at_some.if-to-at.false at_some.before.before.requires.0 c.if-text-at.true)
+    sym (is_marked-no _ _ _ _ at_some.if-to-at.false at_some.requires.0 c.if-text-at.true)
 
 returns-3 : tie.Need-returns-then-to-at-2
 returns-3 c =
     let at_byte = c.before in
     let at_some = at_byte.before.before in
-    let pre = at_some.before.before.requires in
+    let pre = at_some.requires in
     sym (is_marked-one _ _ _ _ at_some.if-to-at.false pre.0 pre.1 at_byte.if-text-at.false c.if-to-at-2.true)
 
 returns-4 : tie.Need-returns
@@ -27,7 +27,7 @@ returns-4 c =
     let at-two = c.before.before in
     let at_byte = at-two.before in
     let at_some = at_byte.before.before in
-    let pre = at_some.before.before.requires in
+    let pre = at_some.requires in
     ap not c.is_nonblank.ensures
     ∙ sym (is_marked-two _ _ _ _ at_some.if-to-at.false pre.0 pre.1 at_byte.if-text-at.false at-two.if-to-at-2.false)
 

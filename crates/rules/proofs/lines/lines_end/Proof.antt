@@ -21,34 +21,34 @@ decreases-loop-at text from to class at₀ n₀ at n = to - at
 
 starts-line-requires : tie.Need-starts_line-requires invariant-loop-at decreases-loop-at
 starts-line-requires c κs =
-    let inv = c.before.before.loop-at.invariant in
+    let inv = c.loop-at.invariant in
     (after-to _ _ _ _ (indent-run _ _ _ _ c.run_end-body.ensures) inv.0 inv.1, inv.1)
 
 line-end-requires : tie.Need-line_end-at-requires invariant-loop-at decreases-loop-at
 line-end-requires c κs =
     let at_body = c.before.before in
-    let inv = at_body.before.before.loop-at.invariant in
+    let inv = at_body.loop-at.invariant in
     (after-to _ _ _ _ (indent-run _ _ _ _ at_body.run_end-body.ensures) inv.0 inv.1, inv.1)
 
 returns : tie.Need-returns-then-not-starts_line invariant-loop-at decreases-loop-at
 returns c =
     let at_body = c.before.before in
-    let inv = at_body.before.before.loop-at.invariant in
+    let inv = at_body.loop-at.invariant in
     counted-here _ _ _ _ _ _ inv.3
-    (sym (c.before.starts_line.ensures _ (indent-run _ _ _ _ at_body.run_end-body.ensures)) ∙ not-true _ c.if-not-starts_line.true)
+    (sym (c.starts_line.ensures _ (indent-run _ _ _ _ at_body.run_end-body.ensures)) ∙ not-true _ c.if-not-starts_line.true)
 
 -- where the line ends
 end : (c : tie.After-line_end-at invariant-loop-at decreases-loop-at) → let at-loop = c.before.before.before.before.before in
-    let args = at-loop.before.before.args in
+    let args = at-loop.args in
     c.line_end-at.result ≡ at-loop.loop-at.at + length (line_in args.text.now at-loop.loop-at.at args.to)
-end c = c.line_end-at.ensures ∙ after-end _ _ _ _ (indent-run _ _ _ _ c.before.before.before.run_end-body.ensures)
+end c = c.line_end-at.ensures ∙ after-end _ _ _ _ (indent-run _ _ _ _ c.run_end-body.ensures)
 
 -- the next line starts further on, and not past the end
 next : (c : tie.After-line_end-at invariant-loop-at decreases-loop-at) → let at-loop = c.before.before.before.before.before in
-    (at-loop.loop-at.at < c.line_end-at.result) × (c.line_end-at.result ≤ at-loop.before.before.args.to)
+    (at-loop.loop-at.at < c.line_end-at.result) × (c.line_end-at.result ≤ at-loop.args.to)
 next c =
     let at_test = c.before.before.before.before in
-    line-next _ _ _ _ (end c) at_test.loop-at-test.true at_test.before.loop-at.invariant.1
+    line-next _ _ _ _ (end c) at_test.loop-at-test.true at_test.loop-at.invariant.1
 
 loop-less : tie.Need-loop-at-smaller invariant-loop-at decreases-loop-at
 loop-less c = omega (arith, next c)
@@ -57,16 +57,16 @@ loop-again : tie.Need-loop-at-preserved invariant-loop-at decreases-loop-at
 loop-again c =
     let at_body = c.before.before.before in
     let at_test = at_body.before in
-    let inv = at_test.before.loop-at.invariant in (
+    let inv = at_test.loop-at.invariant in (
       (next c).1,
       inv.1,
       omega (arith, next c),
       counted_skip _ _ _ _ _ _ inv.3 at_test.loop-at-test.true inv.1 _ (end c)
-          (sym (c.before.before.starts_line.ensures _ (indent-run _ _ _ _ at_body.run_end-body.ensures)) ∙ not-false _ c.before.if-not-starts_line.false),
+          (sym (c.starts_line.ensures _ (indent-run _ _ _ _ at_body.run_end-body.ensures)) ∙ not-false _ c.if-not-starts_line.false),
     )
 
 returns-2 : tie.Need-returns invariant-loop-at decreases-loop-at
-returns-2 c = counted-end _ _ _ _ _ _ c.before.loop-at.invariant.3 c.loop-at-test.false
+returns-2 c = counted-end _ _ _ _ _ _ c.loop-at.invariant.3 c.loop-at-test.false
 
 pub lines_end_spec : {M : Type 1} → statement M
 lines_end_spec =

@@ -12,15 +12,15 @@ use Rattle.rules.proofs.lines.try_run.Statement.{statement}
 use Rattle.rules.proofs.lines.try_run.Tie as tie
 
 starts-line-requires : tie.Need-starts_line-requires
-starts-line-requires c κs = let o = line_of-order _ _ _ c.before.requires.0.line in omega arith
+starts-line-requires c κs = let o = line_of-order _ _ _ c.requires.0.line in omega arith
 
 returns : tie.Need-returns-then-not-starts_line
 returns c =
-    let pre = c.before.before.before.requires.0.line in
-    run_of-no _ _ _ pre _ _ (sym (c.before.starts_line.ensures _ (line_of-from _ _ _ pre)) ∙ not-true _ c.if-not-starts_line.true)
+    let pre = c.requires.0.line in
+    run_of-no _ _ _ pre _ _ (sym (c.starts_line.ensures _ (line_of-from _ _ _ pre)) ∙ not-true _ c.if-not-starts_line.true)
 
 lines-end-requires : tie.Need-lines_end-run-requires
-lines-end-requires c κs = let o = line_of-order _ _ _ c.before.before.before.requires.0.line in omega arith
+lines-end-requires c κs = let o = line_of-order _ _ _ c.requires.0.line in omega arith
 
 add : tie.Need-overflow-add-t9
 add c =
@@ -36,8 +36,8 @@ returns-2 : tie.Need-returns
 returns-2 c =
     let at-run = c.before in
     let at_test = at-run.before in
-    let pre = at_test.before.before.before.requires in
-    run_of-yes _ _ _ pre.0.line _ _ pre.1 (sym (at_test.before.starts_line.ensures _ (line_of-from _ _ _ pre.0.line)) ∙ not-false _ at_test.if-not-starts_line.false)
+    let pre = at_test.requires in
+    run_of-yes _ _ _ pre.0.line _ _ pre.1 (sym (at_test.starts_line.ensures _ (line_of-from _ _ _ pre.0.line)) ∙ not-false _ at_test.if-not-starts_line.false)
     _ _ at-run.lines_end-run.ensures.0 at-run.lines_end-run.ensures.1
 
 pub try_run_spec : {M : Type 1} → statement M

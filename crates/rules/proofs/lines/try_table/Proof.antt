@@ -16,25 +16,25 @@ use Rattle.rules.proofs.lines.try_table.Statement.{statement}
 use Rattle.rules.proofs.lines.try_table.Tie as tie
 
 starts-line-requires : tie.Need-starts_line-requires
-starts-line-requires c κs = let o = line_of-order _ _ _ c.before.requires.line in omega arith
+starts-line-requires c κs = let o = line_of-order _ _ _ c.requires.line in omega arith
 
 returns : tie.Need-returns-then-not-starts_line
 returns c =
-    let pre = c.before.before.before.requires.line in
-    table-no _ _ _ pre (sym (c.before.starts_line.ensures _ (line_of-from _ _ _ pre)) ∙ not-true _ c.if-not-starts_line.true)
+    let pre = c.requires.line in
+    table-no _ _ _ pre (sym (c.starts_line.ensures _ (line_of-from _ _ _ pre)) ∙ not-true _ c.if-not-starts_line.true)
 
 lines-end-requires : tie.Need-lines_end-rows-requires
-lines-end-requires c κs = let o = line_of-order _ _ _ c.before.before.before.requires.line in omega arith
+lines-end-requires c κs = let o = line_of-order _ _ _ c.requires.line in omega arith
 
 lines-end-requires-2 : tie.Need-lines_end-formulas-requires
 lines-end-requires-2 c κs =
-    let o = line_of-order _ _ _ c.before.before.before.before.requires.line in
+    let o = line_of-order _ _ _ c.requires.line in
     (past_to _ _ _ _ o.4 o.5 _ c.lines_end-rows.ensures.0, o.5)
 
 -- the lines of both runs are among those after the first
 both : (c : tie.After-lines_end-formulas) →
     let start = c.before.before.before.before.before in
-    c.before.lines_end-rows.result.lines + c.lines_end-formulas.result.lines ≤ length start.args.text.now + length start.args.text.now
+    c.lines_end-rows.result.lines + c.lines_end-formulas.result.lines ≤ length start.args.text.now + length start.args.text.now
 both c =
     let at_rows = c.before in
     let start = at_rows.before.before.before.before in
@@ -59,8 +59,8 @@ returns-2 c =
     let at-formulas = c.before.before.before in
     let at_rows = at-formulas.before in
     let at_test = at_rows.before in
-    let pre = at_test.before.before.before.requires.line in
-    table-yes _ _ _ pre (sym (at_test.before.starts_line.ensures _ (line_of-from _ _ _ pre)) ∙ not-false _ at_test.if-not-starts_line.false)
+    let pre = at_test.requires.line in
+    table-yes _ _ _ pre (sym (at_test.starts_line.ensures _ (line_of-from _ _ _ pre)) ∙ not-false _ at_test.if-not-starts_line.false)
     _ _ _ _ at_rows.lines_end-rows.ensures.0 at-formulas.lines_end-formulas.ensures.0 at_rows.lines_end-rows.ensures.1 at-formulas.lines_end-formulas.ensures.1
 
 pub try_table_spec : {M : Type 1} → statement M

@@ -9,18 +9,18 @@ use Rattle.rules.proofs.list.find_next.Statement.{statement}
 use Rattle.rules.proofs.list.find_next.Tie as tie
 
 returns : tie.Need-returns-then-to-start
-returns c = let first = c.before.first_line-first.ensures in next-end _ _ _ _ _ first.0 first.1 c.if-to-start.true
+returns c = let first = c.first_line-first.ensures in next-end _ _ _ _ _ first.0 first.1 c.if-to-start.true
 
 returns-2 : tie.Need-returns-then-first-gt1
 returns-2 c =
     let at_test = c.before.before in
-    let first = at_test.before.first_line-first.ensures in
+    let first = at_test.first_line-first.ensures in
     next-two _ _ _ _ _ first.0 first.1 at_test.if-to-start.false c.if-first-gt1.true
 
 indent-width-requires : tie.Need-indent_width-requires
 indent-width-requires c κs =
     let at_test = c.before.before.before in
-    let pre = at_test.before.before.before.requires in
+    let pre = at_test.requires in
     let to = run-part-to _ _ _ is_indent (let h = at_test.if-to-start.false in omega arith) pre.1 _ c.run_end-body.ensures in
     omega (arith, c.run_end-body.ensures)
 
@@ -29,7 +29,7 @@ returns-3 c =
     let at_body = c.before in
     let at-few = at_body.before in
     let at_test = at-few.before.before in
-    let first = at_test.before.first_line-first.ensures in
+    let first = at_test.first_line-first.ensures in
     next-line _ _ _ _ _ first.0 first.1 at_test.if-to-start.false at-few.if-first-gt1.false _ _
     at_body.run_end-body.ensures c.indent_width.ensures
 

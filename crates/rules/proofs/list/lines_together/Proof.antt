@@ -17,11 +17,11 @@ within : (c : tie.Start) → c.args.body < c.args.scope.end
 within c = let pre = c.requires in body-within _ _ _ _ pre.some pre.text pre.body pre.nonblank
 
 shared-slice-read-first : tie.Need-bounds-text-body
-shared-slice-read-first c = let pre = c.before.before.requires in omega (arith, within c.before.before, pre.text)
+shared-slice-read-first c = let pre = c.requires in omega (arith, within c.before.before, pre.text)
 
 together-end-requires : tie.Need-together_end-requires
 together-end-requires c κs =
-    let pre = c.before.before.before.before.requires in
+    let pre = c.requires in
     let start = line_span-start _ _ _ _ c.line_at.ensures in
     record { line = line_of _ _ _ _ pre.some pre.text c.line_at.ensures; known = rw start pre.known }
 
@@ -29,16 +29,16 @@ line-end-requires : tie.Need-line_end-requires
 line-end-requires c κs = let start = c.before.before.before in (let h = within start in omega arith, start.requires.text)
 
 returns : tie.Need-returns-in-35
-returns c = rw (line_span-start _ _ _ _ c.before.line_at.ensures) at c.together_end.ensures
+returns c = rw (line_span-start _ _ _ _ c.line_at.ensures) at c.together_end.ensures
 
-end : (c : tie.After-line_end) → let args = c.before.before.before.before.args in
+end : (c : tie.After-line_end) → let args = c.args in
     c.line_end.result ≡ args.start + length (line_in args.text.now args.start args.scope.end)
-end c = c.line_end.ensures ∙ after-end _ _ _ _ c.before.before.before.before.requires.body
+end c = c.line_end.ensures ∙ after-end _ _ _ _ c.requires.body
 
 returns-2 : tie.Need-returns-in_default
 returns-2 c =
-    let pre = c.before.before.before.before.requires in
-    let r = c.before.in-35.rest in
+    let pre = c.requires in
+    let r = c.in-35.rest in
     let alone = line-alone _ _ _ _ pre.some pre.text pre.body pre.nonblank in
     record {
       run = alone (λ h. r.1 (inl h)) (λ h. r.1 (inr (inl h))) (λ h. r.1 (inr (inr h))) _ (end c);

@@ -35,7 +35,7 @@ decreases-loop-start text width to at₀ n₀ ends₀ names₀ at n ends names =
 
 loop-holds : tie.Need-loop-start-init invariant-loop-start decreases-loop-start
 loop-holds c =
-    let pre = c.before.requires in
+    let pre = c.requires in
     let o = line_of-order _ _ _ pre.first.line in
     (o.4, o.5, pre.limit, knows-next _ _ _ _ _ pre.first.line pre.first.known, refl)
 
@@ -46,27 +46,27 @@ item-end-requires c κs = let inv = c.loop-start.invariant in record { order = i
 
 -- the list's lines from there on
 rest : (c : tie.After-item_end-further invariant-loop-start decreases-loop-start) →
-    let args = c.before.before.before.args in
+    let args = c.args in
     let run = c.item_end-further.result.run-1 in
-    run_by (list_lines args.width 0) args.text.now run.end args.scope.end (c.before.loop-start.n + run.lines)
+    run_by (list_lines args.width 0) args.text.now run.end args.scope.end (c.loop-start.n + run.lines)
     ≡ list_run args.text.now args.line.start-1 args.scope.end
 rest c =
-    let pre = c.before.before.before.requires in
-    list-item _ _ _ _ _ c.item_end-further.ensures.run-1 _ ∙ c.before.loop-start.invariant.4 ∙ list-first _ _ _ _ pre.first.line pre.wide
+    let pre = c.requires in
+    list-item _ _ _ _ _ c.item_end-further.ensures.run-1 _ ∙ c.loop-start.invariant.4 ∙ list-first _ _ _ _ pre.first.line pre.wide
 
 -- no more are counted than there are bytes
 total : (c : tie.After-item_end-further invariant-loop-start decreases-loop-start) →
-    let args = c.before.before.before.args in
+    let args = c.args in
     let run = c.item_end-further.result.run-1 in
-    c.before.loop-start.n + run.lines + list_lines args.width 0 (lines_in args.text.now run.end args.scope.end) ≤ args.scope.end
+    c.loop-start.n + run.lines + list_lines args.width 0 (lines_in args.text.now run.end args.scope.end) ≤ args.scope.end
 total c =
     let start = c.before.before.before in
     list-total _ _ _ _ start.requires.first.line start.requires.wide (list_lines start.args.width 0) _ _ (rest c)
 
 order : (c : tie.After-item_end-further invariant-loop-start decreases-loop-start) →
     let run = c.item_end-further.result.run-1 in
-    (c.before.loop-start.at ≤ run.end) × (run.end ≤ c.before.before.before.args.scope.end)
-order c = let inv = c.before.loop-start.invariant in item-order _ _ _ _ _ c.item_end-further.ensures.run-1 inv.0 inv.1
+    (c.loop-start.at ≤ run.end) × (run.end ≤ c.args.scope.end)
+order c = let inv = c.loop-start.invariant in item-order _ _ _ _ _ c.item_end-further.ensures.run-1 inv.0 inv.1
 
 returns : tie.Need-returns-in_default invariant-loop-start decreases-loop-start
 returns c =
@@ -81,21 +81,21 @@ abbrev after-item : tie.In-Line-2 invariant-loop-start decreases-loop-start → 
 after-item c = c.before.before.before.before.before
 
 next : (c : tie.In-Line-2 invariant-loop-start decreases-loop-start) →
-    let args = (after-item c).before.before.before.args in
+    let args = (after-item c).args in
     let line = c.start-1.given.0 in
     IsNext args.text.now (after-item c).item_end-further.result.run-1.end args.scope.end line.0 line.1.0 line.1.1.0 line.1.1.1.0
-next c = next-is _ _ _ _ _ _ _ (sym c.start-1.given.1 ∙ c.before.before.find_next.ensures)
+next c = next-is _ _ _ _ _ _ _ (sym c.start-1.given.1 ∙ c.find_next.ensures)
 
 -- where a fact of it ends the list
 stop : (c : tie.In-Line-2 invariant-loop-start decreases-loop-start) →
-    let args = (after-item c).before.before.before.args in
+    let args = (after-item c).args in
     let run = (after-item c).item_end-further.result.run-1 in
     let line = line_in args.text.now c.start-1.given.0.0 args.scope.end in
     (is_item line && eqb (width line) args.width) ≡ false
-    → line_run run.end ((after-item c).before.loop-start.n + run.lines) ≡ list_run args.text.now args.line.start-1 args.scope.end
+    → line_run run.end ((after-item c).loop-start.n + run.lines) ≡ list_run args.text.now args.line.start-1 args.scope.end
 stop c h =
     let at_item = after-item c in
-    list-stop (next c) (order at_item).1 at_item.before.loop-start.inv.1 _ _ h ∙ rest at_item
+    list-stop (next c) (order at_item).1 at_item.loop-start.inv.1 _ _ h ∙ rest at_item
 
 returns-2 : tie.Need-returns-then-indent-width invariant-loop-start decreases-loop-start
 returns-2 c =
@@ -107,12 +107,12 @@ is-item-requires : tie.Need-is_item-requires invariant-loop-start decreases-loop
 is-item-requires c κs =
     let at-line = c.before.before in
     let line = next at-line in
-    (let h = line.some in omega arith, (after-item at-line).before.loop-start.invariant.1, line.body)
+    (let h = line.some in omega arith, (after-item at-line).loop-start.invariant.1, line.body)
 
 returns-3 : tie.Need-returns-then-not-is_item invariant-loop-start decreases-loop-start
 returns-3 c =
     let at-line = c.before.before.before.before in
-    let plain = sym c.before.is_item.ensures ∙ not-true _ c.if-not-is_item.true in
+    let plain = sym c.is_item.ensures ∙ not-true _ c.if-not-is_item.true in
     record { run = stop at-line (rw plain); known = (after-item at-line).item_end-further.ensures.known }
 
 -- ---- an item line of the list's indentation
@@ -121,37 +121,37 @@ line-end-requires : tie.Need-line_end-at-requires invariant-loop-start decreases
 line-end-requires c κs =
     let at-line = c.before.before.before.before in
     let line = next at-line in
-    let text = (after-item at-line).before.loop-start.invariant.1 in
+    let text = (after-item at-line).loop-start.invariant.1 in
     (after-to _ _ _ _ line.body (let h = line.some in omega arith) text, text)
 
 -- its end
 end : (c : tie.After-line_end-at invariant-loop-start decreases-loop-start) →
     let at-line = c.before.before.before.before.before in
-    let args = (after-item at-line).before.before.before.args in
+    let args = (after-item at-line).args in
     let p = at-line.start-1.given.0.0 in
     c.line_end-at.result ≡ p + length (line_in args.text.now p args.scope.end)
 end c = c.line_end-at.ensures ∙ after-end _ _ _ _ (next c.before.before.before.before.before).body
 
 same : (c : tie.Else-not-is_item invariant-loop-start decreases-loop-start) →
     let at-line = c.before.before.before.before in
-    let args = (after-item at-line).before.before.before.args in
+    let args = (after-item at-line).args in
     let line = line_in args.text.now at-line.start-1.given.0.0 args.scope.end in
     (is_item line && eqb (width line) args.width) ≡ true
 same c =
     let at-line = c.before.before.before.before in
-    let item = sym c.before.is_item.ensures ∙ not-false _ c.if-not-is_item.false in
-    rw item (eq-eqb _ _ (sym (next at-line).wide ∙ c.before.before.if-indent-width.false))
+    let item = sym c.is_item.ensures ∙ not-false _ c.if-not-is_item.false in
+    rw item (eq-eqb _ _ (sym (next at-line).wide ∙ c.if-indent-width.false))
 
 passed : (c : tie.After-line_end-at invariant-loop-start decreases-loop-start) →
     let at-line = c.before.before.before.before.before in
     let at_item = after-item at-line in
-    let to = at_item.before.before.before.args.scope.end in
-    (at_item.before.loop-start.n + at_item.item_end-further.result.run-1.lines + (at-line.start-1.given.0.1.1.1.0 + 1) ≤ to)
-    × (at_item.before.loop-start.at < c.line_end-at.result) × (c.line_end-at.result ≤ to)
+    let to = at_item.args.scope.end in
+    (at_item.loop-start.n + at_item.item_end-further.result.run-1.lines + (at-line.start-1.given.0.1.1.1.0 + 1) ≤ to)
+    × (at_item.loop-start.at < c.line_end-at.result) × (c.line_end-at.result ≤ to)
 passed c =
     let at-line = c.before.before.before.before.before in
     let at_item = after-item at-line in
-    let text = at_item.before.loop-start.inv.1 in
+    let text = at_item.loop-start.inv.1 in
     let line = next at-line in
     let count = list_count line (order at_item).1 text _ (same c.before) in
     let further = line-next _ _ _ _ (end c) line.some text in
@@ -161,7 +161,7 @@ loop-again : tie.Need-loop-start-preserved invariant-loop-start decreases-loop-s
 loop-again c =
     let at-line = c.before.before.before.before.before in
     let at_item = after-item at-line in
-    let inv = at_item.before.loop-start.inv in
+    let inv = at_item.loop-start.inv in
     let line = next at-line in (
       (passed c).2,
       inv.1,
@@ -179,7 +179,7 @@ list_end_spec =
     loop-holds
     item-end-requires
     (λ c. omega (arith, total c.before.before))
-    (λ c κs. let inv = c.before.before.before.loop-start.invariant in omega (arith, order c.before.before))
+    (λ c κs. let inv = c.loop-start.invariant in omega (arith, order c.before.before))
     (λ c. search rules)
     (λ c. search rules)
     is-item-requires

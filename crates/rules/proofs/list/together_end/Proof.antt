@@ -17,12 +17,12 @@ returns c =
     let at-element = c.before.before.before in
     let at-rule = at-element.before.before in
     let holds = sym at-element.e-1.given.1 ∙ at-rule.find_rule.ensures in
-    record { run = rule-together _ _ _ _ _ holds c.if-e-le-TABLE.true; known = knows-rule _ _ _ _ _ at-rule.before.before.requires.known _ _ holds }
+    record { run = rule-together _ _ _ _ _ holds c.if-e-le-TABLE.true; known = knows-rule _ _ _ _ _ at-rule.requires.known _ _ holds }
 
-alone : (c : tie.Joined-find_rule) → let args = c.before.before.before.args in
+alone : (c : tie.Joined-find_rule) → let args = c.args in
     Alone (lines_in args.text.now args.line.start args.scope.end)
 alone c =
-    let found = c.before.find_rule.ensures in
+    let found = c.find_rule.ensures in
     ⊎_elim
     (λ w. let (m, e, k, s, high) = w in rule-alone _ _ _ _ _ (sym e.given.1 ∙ found) high.left)
     (λ w. no-rule-alone _ _ _ _ (sym w.1.given.1 ∙ found))
@@ -33,7 +33,7 @@ returns-2 c =
     let at-ends = c.before in
     let at-match = at-ends.before in
     record {
-      run = together-line _ _ _ at-match.before.before.before.requires.line (alone at-match);
+      run = together-line _ _ _ at-match.requires.line (alone at-match);
       known = record { ends = at-ends.ends_after.ensures; names = c.names_after.ensures };
     }
 

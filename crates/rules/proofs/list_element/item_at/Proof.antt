@@ -16,13 +16,13 @@ use Rattle.rules.proofs.list_element.item_at.Tie as tie
 
 indent-width-requires : tie.Need-indent_width-width-requires
 indent-width-requires c κs =
-    let o = line_of-order _ _ _ c.before.requires.0.line in
-    let limit = c.before.requires.1 in
+    let o = line_of-order _ _ _ c.requires.0.line in
+    let limit = c.requires.1 in
     omega arith
 
 item-end-requires : tie.Need-item_end-further-requires
 item-end-requires c κs =
-    let pre = c.before.before.requires in
+    let pre = c.requires in
     let o = line_of-order _ _ _ pre.0.line in
     record { order = o.4; text = o.5; limit = pre.1; known = knows-next _ _ _ _ _ pre.0.line pre.0.known }
 
@@ -36,15 +36,15 @@ add c =
     let e = start.args.scope.end in
     let o = line_of-order _ _ _ start.requires.0.line in
     let lines = ap (λ (x : LineRun). x.lines) at-end.item_end-further.ensures.run-1 in
-    omega (arith, lines, item_lines-le at-end.before.indent_width-width.result 0 (lines_in s l.end e), lines_in-length s l.end e o.4 o.5)
+    omega (arith, lines, item_lines-le at-end.indent_width-width.result 0 (lines_in s l.end e), lines_in-length s l.end e o.4 o.5)
 
 returns : tie.Need-returns
 returns c =
     let at-end = c.before.before.before in
     let start = at-end.before.before.before in
     let line = start.requires.0.line in
-    let wide = at-end.before.indent_width-width.ensures ∙ sym (width-part _ _ _ _ (line_of-from _ _ _ line)) in
+    let wide = at-end.indent_width-width.ensures ∙ sym (width-part _ _ _ _ (line_of-from _ _ _ line)) in
     record { is = item-spanned _ _ _ line _ wide _ at-end.item_end-further.ensures.run-1 _ c.left_start.ensures; known = at-end.item_end-further.ensures.known }
 
 pub item_at_spec : {M : Type 1} → statement M
-item_at_spec = tie.close (tie.spec indent-width-requires item-end-requires add (λ c κs. c.before.before.before.before.before.requires.0.line) returns)
+item_at_spec = tie.close (tie.spec indent-width-requires item-end-requires add (λ c κs. c.requires.0.line) returns)

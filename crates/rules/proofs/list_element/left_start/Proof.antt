@@ -12,14 +12,14 @@ use Rattle.rules.proofs.list_element.left_start.Tie as tie
 
 find-bullet-requires : tie.Need-find_bullet-requires
 find-bullet-requires c κs =
-    let line = c.before.requires in
+    let line = c.requires in
     let o = line_of-order _ _ _ line in
     (omega arith, o.5, line_of-from _ _ _ line)
 
 returns-3 : tie.Need-returns-in-Nothing
 returns-3 c =
     let at-bullet = c.before.before in
-    let line = at-bullet.before.before.requires in
+    let line = at-bullet.requires in
     let item = item-nothing _ _ (sym c.enum_told-1.given.1 ∙ at-bullet.find_bullet.ensures) in
     line_of-end _ _ _ line ∙ sym (item_start-nothing _ _ item)
 
@@ -28,7 +28,7 @@ item-start-requires : tie.Need-item_start-requires
 item-start-requires c κs =
     let at_after = c.before in
     let at-bullet = at_after.before.before in
-    let line = at-bullet.before.before.requires in
+    let line = at-bullet.requires in
     let o = line_of-order _ _ _ line in
     let ends = ap bullet_end (sym at-bullet.find_bullet.ensures ∙ at_after.after-1.given.1) in
     let b = bullet-order _ _ _ _ line.some line.end _ (line_of-end _ _ _ line) ends in
@@ -38,7 +38,7 @@ item-start-requires-2 : tie.Need-item_start-requires-in-Number
 item-start-requires-2 c κs =
     let at_after = c.before in
     let at-bullet = at_after.before.before in
-    let line = at-bullet.before.before.requires in
+    let line = at-bullet.requires in
     let o = line_of-order _ _ _ line in
     let ends = ap bullet_end (sym at-bullet.find_bullet.ensures ∙ at_after.after-in-Number-1.given.1) in
     let b = bullet-order _ _ _ _ line.some line.end _ (line_of-end _ _ _ line) ends in
@@ -48,7 +48,7 @@ returns : tie.Need-returns-in-Sign
 returns c =
     let at_after = c.before.before in
     let at-bullet = at_after.before.before in
-    let line = at-bullet.before.before.requires in
+    let line = at-bullet.requires in
     let ends = ap bullet_end (sym at-bullet.find_bullet.ensures ∙ at_after.after-1.given.1) in
     start_is _ _ _ _ line.some line.end _ (line_of-end _ _ _ line) ends _ c.item_start.ensures
 
@@ -56,7 +56,7 @@ returns-2 : tie.Need-returns-in-Number
 returns-2 c =
     let at_after = c.before.before in
     let at-bullet = at_after.before.before in
-    let line = at-bullet.before.before.requires in
+    let line = at-bullet.requires in
     let ends = ap bullet_end (sym at-bullet.find_bullet.ensures ∙ at_after.after-in-Number-1.given.1) in
     start_is _ _ _ _ line.some line.end _ (line_of-end _ _ _ line) ends _ c.item_start-in-Number.ensures
 

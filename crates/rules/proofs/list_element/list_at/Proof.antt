@@ -10,13 +10,13 @@ use Rattle.rules.proofs.list_element.list_at.Tie as tie
 
 indent-width-requires : tie.Need-indent_width-width-requires
 indent-width-requires c κs =
-    let o = line_of-order _ _ _ c.before.requires.0.line in
-    let limit = c.before.requires.1 in
+    let o = line_of-order _ _ _ c.requires.0.line in
+    let limit = c.requires.1 in
     omega arith
 
 list-end-requires : tie.Need-list_end-further-requires
 list-end-requires c κs =
-    let pre = c.before.before.requires in
+    let pre = c.requires in
     record {
       first = pre.0;
       limit = pre.1;
@@ -29,4 +29,4 @@ returns c =
     record { is = list-spanned _ _ _ _ _ c.list_detail.ensures at-end.list_end-further.ensures.run-1; known = at-end.list_end-further.ensures.known }
 
 pub list_at_spec : {M : Type 1} → statement M
-list_at_spec = tie.close (tie.spec indent-width-requires list-end-requires (λ c κs. c.before.before.before.before.requires.0.line) returns)
+list_at_spec = tie.close (tie.spec indent-width-requires list-end-requires (λ c κs. c.requires.0.line) returns)

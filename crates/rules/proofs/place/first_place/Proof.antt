@@ -13,12 +13,12 @@ use Rattle.rules.proofs.place.first_place.Statement.{statement}
 use Rattle.rules.proofs.place.first_place.Tie as tie
 
 returns : tie.Need-returns-then-not-blank
-returns c = rw (not-true c.before.args.blank c.if-not-blank.true)
+returns c = rw (not-true c.args.blank c.if-not-blank.true)
 
 -- ---- after blank lines
 
-blank : (c : tie.Else-not-blank) → c.before.args.blank ≡ true
-blank c = not-false c.before.args.blank c.if-not-blank.false
+blank : (c : tie.Else-not-blank) → c.args.blank ≡ true
+blank c = not-false c.args.blank c.if-not-blank.false
 
 returns-2 : tie.Need-returns-in-Opening
 returns-2 c = rw (blank c.before.before, c.enum_told-1.given.1)
@@ -33,7 +33,7 @@ after_blank-other InLine h = refl
 
 returns-3 : tie.Need-returns-in_default
 returns-3 c =
-    let place = c.before.before.args.place in
+    let place = c.args.place in
     rw (blank c.before) (sym (after_blank-other place (λ e. miss (0 ∷ 1 ∷ 3 ∷ 4 ∷ 5 ∷ []) 2 tt (rw e at c.in-Opening.keys2))))
 
 pub first_place_spec : {M : Type 1} → statement M

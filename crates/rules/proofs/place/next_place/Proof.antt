@@ -16,32 +16,32 @@ use Rattle.rules.proofs.place.next_place.Tie as tie
 
 returns : tie.Need-returns-then-not-tight
 unfolding next_place
-returns c = rw (not-true c.before.args.tight c.if-not-tight.true)
+returns c = rw (not-true c.args.tight c.if-not-tight.true)
 
 -- ---- with no blank line after it
 
-tight : (c : tie.Else-not-tight) → c.before.args.tight ≡ true
-tight c = not-false c.before.args.tight c.if-not-tight.false
+tight : (c : tie.Else-not-tight) → c.args.tight ≡ true
+tight c = not-false c.args.tight c.if-not-tight.false
 
 returns-2 : tie.Need-returns-then-kind-eq-PLANNING
 unfolding next_place
 returns-2 c =
-    let kind = c.before.before.args.kind in
+    let kind = c.args.kind in
     rw (tight c.before, eq-eqb kind Kind.planning c.if-kind-eq-PLANNING.true, next_place)
 
 returns-3 : tie.Need-returns-then-kind-ne-COMMENT
 unfolding next_place
 returns-3 c =
-    let kind = c.before.before.before.args.kind in
-    rw (tight c.before.before, ne_eqb kind Kind.planning c.before.if-kind-eq-PLANNING.false, ne_eqb kind Kind.comment c.if-kind-ne-COMMENT.true, next_place)
+    let kind = c.args.kind in
+    rw (tight c.before.before, ne_eqb kind Kind.planning c.if-kind-eq-PLANNING.false, ne_eqb kind Kind.comment c.if-kind-ne-COMMENT.true, next_place)
 
 -- ---- after a comment
 
-comment : (c : tie.Else-kind-ne-COMMENT) → let a = c.before.before.before.args in next_place a.place a.kind a.tight ≡ after_first_comment a.place
+comment : (c : tie.Else-kind-ne-COMMENT) → let a = c.args in next_place a.place a.kind a.tight ≡ after_first_comment a.place
 unfolding next_place
 comment c =
-    let kind = c.before.before.before.args.kind in
-    rw (tight c.before.before, ne_eqb kind Kind.planning c.before.if-kind-eq-PLANNING.false, eq-eqb kind Kind.comment c.if-kind-ne-COMMENT.false, next_place)
+    let kind = c.args.kind in
+    rw (tight c.before.before, ne_eqb kind Kind.planning c.if-kind-eq-PLANNING.false, eq-eqb kind Kind.comment c.if-kind-ne-COMMENT.false, next_place)
 
 returns-4 : tie.Need-returns-in-Opening
 returns-4 c = rw (comment c.before.before, c.enum_told-1.given.1)
@@ -59,7 +59,7 @@ after_first_comment-other InLine h k = refl
 
 returns-6 : tie.Need-returns-in_default
 returns-6 c =
-    let place = c.before.before.before.before.args.place in
+    let place = c.args.place in
     let tags : List ℕ = 0 ∷ 1 ∷ 4 ∷ 5 ∷ [] in
     rw (comment c.before)
     (sym (after_first_comment-other place (λ e. miss tags 2 tt (rw e at c.in-Opening.keys3)) (λ e. miss tags 3 tt (rw e at c.in-Opening.keys3))))

@@ -7,10 +7,10 @@ use Rattle.rules.proofs.planning.is_planning.Statement.{statement}
 use Rattle.rules.proofs.planning.is_planning.Tie as tie
 
 is-planning-requires : tie.Need-is_planning-requires
-is-planning-requires c κs = omega (arith, line_of-order _ _ _ c.before.requires)
+is-planning-requires c κs = omega (arith, line_of-order _ _ _ c.requires)
 
 returns : tie.Need-returns
-returns c = rw (is_planning-part _ _ _ c.before.before.requires) c.is_planning.ensures
+returns c = rw (is_planning-part _ _ _ c.requires) c.is_planning.ensures
 
 pub is_planning_spec : {M : Type 1} → statement M
 is_planning_spec = tie.close (tie.spec is-planning-requires returns)

@@ -24,13 +24,13 @@ line : (c : tie.After-is_planning) → let start = c.before.before.before.before
     (allows_planning start.args.scope.place && is_planning (line_in start.args.text.now start.args.line.start start.args.scope.end))
     ≡ c.is_planning.result
 unfolding allows_planning
-line c = rw c.before.enum_told-1.given.1 (sym c.is_planning.ensures)
+line c = rw c.enum_told-1.given.1 (sym c.is_planning.ensures)
 
 returns-2 : tie.Need-returns-then-not-is_planning
-returns-2 c = planning-no _ _ _ c.before.before.before.before.before.requires.line _ (line c.before ∙ not-true _ c.if-not-is_planning.true)
+returns-2 c = planning-no _ _ _ c.requires.line _ (line c.before ∙ not-true _ c.if-not-is_planning.true)
 
 returns-3 : tie.Need-returns
-returns-3 c = planning-yes _ _ _ c.before.before.before.before.before.requires.line _ (line c.before ∙ not-false _ c.if-not-is_planning.false)
+returns-3 c = planning-yes _ _ _ c.requires.line _ (line c.before ∙ not-false _ c.if-not-is_planning.false)
 
 pub try_planning_spec : {M : Type 1} → statement M
 try_planning_spec = tie.close (tie.spec (λ c. search rules) returns (λ c κs. search rules) returns-2 returns-3)

@@ -24,16 +24,16 @@ line : (c : tie.After-line_at-line invariant-loop-at decreases-loop-at) →
     let start = c.before.before.before.before in LineOf start.args.text.now c.line_at-line.result start.args.to
 line c =
     let at_test = c.before in
-    line_of _ _ _ _ at_test.loop-at-test.true at_test.before.loop-at.invariant.1 c.line_at-line.ensures
+    line_of _ _ _ _ at_test.loop-at-test.true at_test.loop-at.invariant.1 c.line_at-line.ensures
 
 returns : tie.Need-returns-then-is_end_line invariant-loop-at decreases-loop-at
 returns c =
     let at-line = c.before.before in
     let at_test = at-line.before in
-    let inv = at_test.before.loop-at.invariant in
+    let inv = at_test.loop-at.invariant in
     further-here _ _ _
     ∙ ap (further _) (properties-here _ _ _ _ at-line.line_at-line.ensures at_test.loop-at-test.true inv.1
-    (sym c.before.is_end_line.ensures ∙ c.if-is_end_line.true))
+    (sym c.is_end_line.ensures ∙ c.if-is_end_line.true))
     ∙ inv.3
 
 returns-2 : tie.Need-returns-in_default invariant-loop-at decreases-loop-at
@@ -42,19 +42,19 @@ returns-2 c =
     let at-end = at-property.before.before in
     let at-line = at-end.before in
     let at_test = at-line.before in
-    let inv = at_test.before.loop-at.invariant in
+    let inv = at_test.loop-at.invariant in
     sym (further-nothing _)
     ∙ ap (further _) (properties-stop _ _ _ _ at-line.line_at-line.ensures at_test.loop-at-test.true inv.1
-    (sym at-end.is_end_line.ensures ∙ at-property.before.if-is_end_line.false)
+    (sym at-end.is_end_line.ensures ∙ at-property.if-is_end_line.false)
     (sym (property_of-named _ _) ∙ ap is_named (sym at-property.property_at.ensures ∙ c.enum_told-in_default-1.given.1)))
     ∙ inv.3
 
 -- the next line starts further on, and not past the end
 next : (c : tie.After-line_at-line invariant-loop-at decreases-loop-at) → let at-loop = c.before.before in
-    (at-loop.loop-at.at < c.line_at-line.result.end) × (c.line_at-line.result.end ≤ at-loop.before.before.args.to)
+    (at-loop.loop-at.at < c.line_at-line.result.end) × (c.line_at-line.result.end ≤ at-loop.args.to)
 next c =
     let at_test = c.before in
-    line_span-next _ _ _ _ c.line_at-line.ensures at_test.loop-at-test.true at_test.before.loop-at.invariant.1
+    line_span-next _ _ _ _ c.line_at-line.ensures at_test.loop-at-test.true at_test.loop-at.invariant.1
 
 loop-less : tie.Need-loop-at-smaller invariant-loop-at decreases-loop-at
 loop-less c = omega (arith, next c.before.before.before.before.before)
@@ -65,19 +65,19 @@ loop-again c =
     let at-end = at-property.before.before in
     let at-line = at-end.before in
     let at_test = at-line.before in
-    let inv = at_test.before.loop-at.invariant in (
+    let inv = at_test.loop-at.invariant in (
       (next at-line).1,
       inv.1,
       omega (arith, next at-line),
       further-one _ _
           ∙ ap (further _) (properties-pass _ _ _ _ at-line.line_at-line.ensures at_test.loop-at-test.true inv.1
-          (sym at-end.is_end_line.ensures ∙ at-property.before.if-is_end_line.false)
+          (sym at-end.is_end_line.ensures ∙ at-property.if-is_end_line.false)
           (sym (property_of-named _ _) ∙ ap is_named (sym at-property.property_at.ensures ∙ c.enum_told-1.given.1)))
           ∙ inv.3,
     )
 
 returns-3 : tie.Need-returns invariant-loop-at decreases-loop-at
-returns-3 c = sym (further-nothing _) ∙ ap (further _) (properties-none _ _ _ c.loop-at-test.false) ∙ c.before.loop-at.invariant.3
+returns-3 c = sym (further-nothing _) ∙ ap (further _) (properties-none _ _ _ c.loop-at-test.false) ∙ c.loop-at.invariant.3
 
 pub find_properties_end_spec : {M : Type 1} → statement M
 find_properties_end_spec =

@@ -10,11 +10,11 @@ use Rattle.rules.proofs.property.is_end_line.Statement.{statement}
 use Rattle.rules.proofs.property.is_end_line.Tie as tie
 
 is-word-requires : tie.Need-is_word-requires
-is-word-requires c κs = let o = line_of-order _ _ _ c.before.before.requires in (o.1, omega arith)
+is-word-requires c κs = let o = line_of-order _ _ _ c.requires in (o.1, omega arith)
 
 returns : tie.Need-returns
 unfolding word
-returns c = c.is_IsWord.ensures ∙ sym (is_end_line-part _ _ _ c.before.before.before.requires)
+returns c = c.is_IsWord.ensures ∙ sym (is_end_line-part _ _ _ c.requires)
 
 pub is_end_line_spec : {M : Type 1} → statement M
 is_end_line_spec = tie.close (tie.spec (λ c. search rules) is-word-requires returns)

@@ -19,28 +19,28 @@ use Rattle.rules.proofs.property.property_at.Statement.{statement}
 use Rattle.rules.proofs.property.property_at.Tie as tie
 
 word-end-requires : tie.Need-word_end-end-requires
-word-end-requires c κs = let o = line_of-order _ _ _ c.before.requires in (o.1, omega arith)
+word-end-requires c κs = let o = line_of-order _ _ _ c.requires in (o.1, omega arith)
 
 is-between-colons-requires : tie.Need-is_between_colons-requires
-is-between-colons-requires c κs = let o = first_run-order _ _ _ c.before.before.requires _ c.word_end-end.ensures in (o.0, omega arith)
+is-between-colons-requires c κs = let o = first_run-order _ _ _ c.requires _ c.word_end-end.ensures in (o.0, omega arith)
 
 returns : tie.Need-returns-then-not-is_between_colons
 returns c =
     let at-run = c.before.before in
     sym (property_of-no _ _
-    (is_node_property-none _ _ _ at-run.before.before.requires _ at-run.word_end-end.ensures
-    (sym c.before.is_between_colons.ensures ∙ not-true _ c.if-not-is_between_colons.true)))
+    (is_node_property-none _ _ _ at-run.requires _ at-run.word_end-end.ensures
+    (sym c.is_between_colons.ensures ∙ not-true _ c.if-not-is_between_colons.true)))
 
 -- the colons stand
 colons : (c : tie.Else-not-is_between_colons) → let at-run = c.before.before in
     let start = at-run.before.before in
     not (is_empty (between_colons (part start.args.text.now start.args.line.from at-run.word_end-end.result))) ≡ true
-colons c = sym c.before.is_between_colons.ensures ∙ not-false _ c.if-not-is_between_colons.false
+colons c = sym c.is_between_colons.ensures ∙ not-false _ c.if-not-is_between_colons.false
 
 order : (c : tie.Else-not-is_between_colons) → let at-run = c.before.before in
     let start = at-run.before.before in
     (3 ≤ at-run.word_end-end.result - start.args.line.from) × (at-run.word_end-end.result ≤ length start.args.text.now)
-order c = let at-run = c.before.before in property_name-order _ _ _ at-run.before.before.requires _ at-run.word_end-end.ensures (colons c)
+order c = let at-run = c.before.before in property_name-order _ _ _ at-run.requires _ at-run.word_end-end.ensures (colons c)
 
 -- the name ends at `name`
 named : (c : tie.Joined-text-name-eq43) → let at_test = c.before.before in
@@ -52,14 +52,14 @@ named : (c : tie.Joined-text-name-eq43) → let at_test = c.before.before in
 named c =
     let at_test = c.before.before in
     let at-run = at_test.before.before in
-    let pre = at-run.before.before.requires in
+    let pre = at-run.requires in
     ⊎_elim
     (λ w. rw w.1 (property_name-plus _ _ _ pre _ at-run.word_end-end.ensures (colons at_test) w.0.taken))
     (λ w. rw w.1 (property_name-whole _ _ _ pre _ at-run.word_end-end.ensures (colons at_test) w.0.left))
     c.if-text-name-eq43.branch
 
 within : (c : tie.Joined-text-name-eq43) → let at-run = c.before.before.before.before in
-    (c.if-text-name-eq43.name ≤ at-run.word_end-end.result) × (at-run.word_end-end.result ≤ length at-run.before.before.args.text.now)
+    (c.if-text-name-eq43.name ≤ at-run.word_end-end.result) × (at-run.word_end-end.result ≤ length at-run.args.text.now)
 within c = let o = order c.before.before in (⊎_elim (λ w. omega arith) (λ w. omega arith) c.if-text-name-eq43.branch, o.1)
 
 returns-2 : tie.Need-returns-then-name-from
@@ -77,7 +77,7 @@ returns-3 c =
     let at_test = c.before.before.before in
     let at_name = at_test.before in
     let at-run = at_name.before.before.before.before in
-    let pre = at-run.before.before.requires in
+    let pre = at-run.requires in
     let n = named at_name in
     let o = within at_name in
     property_of-part _ _ _ _ _ pre (is_node_property-yes _ _ _ _ n at_test.if-name-from.false (omega arith) (eqb-false _ _ c.if-text-name-eq43-2.false)) n

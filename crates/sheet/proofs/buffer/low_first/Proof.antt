@@ -20,18 +20,18 @@ loop-holds : tie.Need-loop-i-init invariant-loop-i decreases-loop-i
 loop-holds c = let w = c.args.width in let k : w - w ≡ 0 = omega arith in (omega arith, low-none _ _ _ (omega arith), rw k reach-none)
 
 mul-n : tie.Need-overflow-mul-n invariant-loop-i decreases-loop-i
-mul-n c = let l = c.before.loop-i in omega (arith, reach-fits (c.before.before.args.width - l.i) (omega arith))
+mul-n c = let l = c.loop-i in omega (arith, reach-fits (c.args.width - l.i) (omega arith))
 
 add-n-2 : tie.Need-overflow-add-n-2 invariant-loop-i decreases-loop-i
 add-n-2 c =
     let at-loop = c.before.before in
-    let a = at-loop.before.args in
+    let a = at-loop.args in
     omega (arith, reach-fits (a.width - at-loop.loop-i.i) (omega arith), c.shared_slice_known-1.given (a.at + (at-loop.loop-i.i - 1)))
 
 loop-again : tie.Need-loop-i-preserved invariant-loop-i decreases-loop-i
 loop-again c =
     let at-loop = c.before.before in
-    let a = at-loop.before.args in
+    let a = at-loop.args in
     let i = at-loop.loop-i.i in
     let p : a.at + (i - 1) + 1 ≡ a.at + i = omega arith in
     let w : a.width - (i - 1) ≡ a.width - i + 1 = omega arith in (
@@ -43,7 +43,7 @@ loop-again c =
 returns : tie.Need-returns invariant-loop-i decreases-loop-i
 returns c =
     let at-loop = c.before in
-    let a = at-loop.before.args in
+    let a = at-loop.args in
     let p : a.at + at-loop.loop-i.i ≡ a.at = omega arith in
     let w : a.width - at-loop.loop-i.i ≡ a.width = omega arith in
     (rw p at at-loop.loop-i.invariant.1, rw w at at-loop.loop-i.invariant.2)
@@ -59,7 +59,7 @@ low_first_spec =
     mul-n
     (λ c. omega arith)
     (λ c. omega arith)
-    (λ c. omega (arith, c.shared_slice_known-1.given (c.before.before.before.args.at + (c.before.before.loop-i.i - 1))))
+    (λ c. omega (arith, c.shared_slice_known-1.given (c.args.at + (c.loop-i.i - 1))))
     add-n-2
     (λ c. omega arith)
     loop-again

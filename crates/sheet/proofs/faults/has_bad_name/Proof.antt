@@ -22,35 +22,35 @@ abbrev decreases-loop-n : tie.decreases-loop-n
 decreases-loop-n buffer start count at₀ n₀ at n = n
 
 loop-holds : tie.Need-loop-n-init invariant-loop-n decreases-loop-n
-loop-holds c = (c.before.requires, refl)
+loop-holds c = (c.requires, refl)
 
 pair-at-requires : tie.Need-pair_at-pair-requires invariant-loop-n decreases-loop-n
-pair-at-requires c κs = pairs_first _ _ _ c.before.loop-n.invariant.0 c.loop-n-test.true
+pair-at-requires c κs = pairs_first _ _ _ c.loop-n.invariant.0 c.loop-n-test.true
 
 -- what was asked of the key
 asked : (c : tie.After-is_bad_name invariant-loop-n decreases-loop-n) →
     let at_pair = c.before.before in
-    c.is_bad_name.result ≡ bad (pair_of at_pair.before.before.before.before.args.buffer.now at_pair.pair_at-pair.result)
-asked c = rw (part_slice _ _ _ c.before.before.pair_at-pair.ensures.spans.key) at c.is_bad_name.ensures
+    c.is_bad_name.result ≡ bad (pair_of at_pair.args.buffer.now at_pair.pair_at-pair.result)
+asked c = rw (part_slice _ _ _ c.pair_at-pair.ensures.spans.key) at c.is_bad_name.ensures
 
 returns : tie.Need-returns-then-is_bad_name invariant-loop-n decreases-loop-n
 returns c =
     let at_pair = c.before.before.before in
     let at_test = at_pair.before in
-    let l = at_test.before.loop-n in
+    let l = at_test.loop-n in
     sym (some-here _ _ _ l.invariant.0 at_test.loop-n-test.true _ at_pair.pair_at-pair.ensures bad (sym (asked c.before) ∙ c.if-is_bad_name.true)) ∙ l.invariant.1
 
 loop-again : tie.Need-loop-n-preserved invariant-loop-n decreases-loop-n
 loop-again c =
     let at_pair = c.before.before.before in
     let at_test = at_pair.before in
-    let l = at_test.before.loop-n in (
+    let l = at_test.loop-n in (
       pairs-left _ _ _ l.invariant.0 at_test.loop-n-test.true _ at_pair.pair_at-pair.ensures,
       sym (some-skip _ _ _ l.invariant.0 at_test.loop-n-test.true _ at_pair.pair_at-pair.ensures bad (sym (asked c.before) ∙ c.if-is_bad_name.false)) ∙ l.invariant.1,
     )
 
 returns-2 : tie.Need-returns invariant-loop-n decreases-loop-n
-returns-2 c = sym (some-none _ _ _ bad c.loop-n-test.false) ∙ c.before.loop-n.invariant.1
+returns-2 c = sym (some-none _ _ _ bad c.loop-n-test.false) ∙ c.loop-n.invariant.1
 
 pub has_bad_name_spec : {M : Type 1} → statement M
 has_bad_name_spec =

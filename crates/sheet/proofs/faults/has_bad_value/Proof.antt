@@ -20,10 +20,10 @@ abbrev decreases-loop-n : tie.decreases-loop-n
 decreases-loop-n buffer from count at₀ n₀ at n = n
 
 loop-holds : tie.Need-loop-n-init invariant-loop-n decreases-loop-n
-loop-holds c = (c.before.requires, refl)
+loop-holds c = (c.requires, refl)
 
 pair-at-requires : tie.Need-pair_at-pair-requires invariant-loop-n decreases-loop-n
-pair-at-requires c κs = pairs_first _ _ _ c.before.loop-n.invariant.0 c.loop-n-test.true
+pair-at-requires c κs = pairs_first _ _ _ c.loop-n.invariant.0 c.loop-n-test.true
 
 is-bad-text-requires : tie.Need-is_bad_text-requires invariant-loop-n decreases-loop-n
 is-bad-text-requires c κs = let s = c.pair_at-pair.ensures.spans in omega arith
@@ -32,22 +32,22 @@ returns : tie.Need-returns-then-is_bad_text invariant-loop-n decreases-loop-n
 returns c =
     let at_pair = c.before.before in
     let at_test = at_pair.before in
-    let l = at_test.before.loop-n in
-    sym (some-here _ _ _ l.invariant.0 at_test.loop-n-test.true _ at_pair.pair_at-pair.ensures bad (sym c.before.is_bad_text.ensures ∙ c.if-is_bad_text.true))
+    let l = at_test.loop-n in
+    sym (some-here _ _ _ l.invariant.0 at_test.loop-n-test.true _ at_pair.pair_at-pair.ensures bad (sym c.is_bad_text.ensures ∙ c.if-is_bad_text.true))
     ∙ l.invariant.1
 
 loop-again : tie.Need-loop-n-preserved invariant-loop-n decreases-loop-n
 loop-again c =
     let at_pair = c.before.before in
     let at_test = at_pair.before in
-    let l = at_test.before.loop-n in (
+    let l = at_test.loop-n in (
       pairs-left _ _ _ l.invariant.0 at_test.loop-n-test.true _ at_pair.pair_at-pair.ensures,
-      sym (some-skip _ _ _ l.invariant.0 at_test.loop-n-test.true _ at_pair.pair_at-pair.ensures bad (sym c.before.is_bad_text.ensures ∙ c.if-is_bad_text.false))
+      sym (some-skip _ _ _ l.invariant.0 at_test.loop-n-test.true _ at_pair.pair_at-pair.ensures bad (sym c.is_bad_text.ensures ∙ c.if-is_bad_text.false))
           ∙ l.invariant.1,
     )
 
 returns-2 : tie.Need-returns invariant-loop-n decreases-loop-n
-returns-2 c = sym (some-none _ _ _ bad c.loop-n-test.false) ∙ c.before.loop-n.invariant.1
+returns-2 c = sym (some-none _ _ _ bad c.loop-n-test.false) ∙ c.loop-n.invariant.1
 
 pub has_bad_value_spec : {M : Type 1} → statement M
 has_bad_value_spec =

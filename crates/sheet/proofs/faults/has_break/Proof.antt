@@ -24,7 +24,7 @@ loop-holds c = (omega arith, omega arith, refl)
 returns : tie.Need-returns-then-b-eq10 invariant-loop-i decreases-loop-i
 returns c =
     let at_test = c.before.before in
-    let l = at_test.before.loop-i in
+    let l = at_test.loop-i in
     sym (has_break-here _ _ _ at_test.loop-i-test.true l.invariant.1
     (⊎_elim (λ w. break-newline _ w.taken) (λ w. break-return _ (eqb-true _ 13 w.1.taken)) c.if-b-eq10.branch))
     ∙ l.invariant.2
@@ -32,14 +32,14 @@ returns c =
 loop-again : tie.Need-loop-i-preserved invariant-loop-i decreases-loop-i
 loop-again c =
     let at_test = c.before.before.before in
-    let l = at_test.before.loop-i in (
+    let l = at_test.loop-i in (
       omega arith,
       omega arith,
-      sym (has_break-skip _ _ _ at_test.loop-i-test.true l.invariant.1 (break-other _ c.before.if-b-eq10.false (eqb-false _ 13 c.if-b-eq13.false))) ∙ l.invariant.2,
+      sym (has_break-skip _ _ _ at_test.loop-i-test.true l.invariant.1 (break-other _ c.if-b-eq10.false (eqb-false _ 13 c.if-b-eq13.false))) ∙ l.invariant.2,
     )
 
 returns-2 : tie.Need-returns invariant-loop-i decreases-loop-i
-returns-2 c = sym (has_break-none _ _ _ c.loop-i-test.false) ∙ c.before.loop-i.invariant.2
+returns-2 c = sym (has_break-none _ _ _ c.loop-i-test.false) ∙ c.loop-i.invariant.2
 
 pub has_break_spec : {M : Type 1} → statement M
 has_break_spec =

@@ -7,13 +7,13 @@ use Rattle.sheet.proofs.faults.is_bad_name.Statement.{statement}
 use Rattle.sheet.proofs.faults.is_bad_name.Tie as tie
 
 returns : tie.Need-returns-then-is_bad_key
-returns c = c.if-is_bad_key.true ∙ sym (bad_name-key _ (sym c.before.is_bad_key.ensures ∙ c.if-is_bad_key.true))
+returns c = c.if-is_bad_key.true ∙ sym (bad_name-key _ (sym c.is_bad_key.ensures ∙ c.if-is_bad_key.true))
 
 returns-2 : tie.Need-returns-else-is_bad_key
 unfolding word
 returns-2 c =
     let at_test = c.before.before in
-    c.is_IsWord.ensures ∙ sym (bad_name-end _ (sym at_test.before.is_bad_key.ensures ∙ at_test.if-is_bad_key.false))
+    c.is_IsWord.ensures ∙ sym (bad_name-end _ (sym at_test.is_bad_key.ensures ∙ at_test.if-is_bad_key.false))
 
 pub is_bad_name_spec : {M : Type 1} → statement M
 is_bad_name_spec =

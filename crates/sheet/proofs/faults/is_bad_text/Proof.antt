@@ -16,15 +16,15 @@ returns : tie.Need-returns-then-to-from
 returns c = sym (bad_text-none _ _ _ c.if-to-from.true)
 
 returns-2 : tie.Need-returns-then-has_break
-returns-2 c = sym (bad_text-break _ _ _ (sym c.before.has_break.ensures ∙ c.if-has_break.true))
+returns-2 c = sym (bad_text-break _ _ _ (sym c.has_break.ensures ∙ c.if-has_break.true))
 
 -- the ends settle it
 ends : (c : tie.Else-has_break) →
-    let a = c.before.before.before.before.args in
+    let a = c.args in
     is_bad_text (part a.buffer.now a.from a.to) ≡ (is_blank (get_or a.buffer.now a.from 0) || is_blank (get_or a.buffer.now (a.to - 1) 0))
 ends c =
     let at_some = c.before.before in
-    bad_text-ends _ _ _ at_some.if-to-from.false at_some.before.before.requires.1 (sym c.before.has_break.ensures ∙ c.if-has_break.false)
+    bad_text-ends _ _ _ at_some.if-to-from.false at_some.requires.1 (sym c.has_break.ensures ∙ c.if-has_break.false)
 
 returns-3 : tie.Need-returns-then-is_of
 returns-3 c =

@@ -9,22 +9,22 @@ use Rattle.sheet.proofs.judge.judge.Statement.{statement}
 use Rattle.sheet.proofs.judge.judge.Tie as tie
 
 returns : tie.Need-returns-in_default
-returns c = judged-none _ (rw c.enum_told-1.given.1 at c.before.before.find_order.ensures)
+returns c = judged-none _ (rw c.enum_told-1.given.1 at c.find_order.ensures)
 
 -- the order
-order : (c : tie.In-Order-2) → OrderIn c.before.before.before.before.args.buffer.now (Order c.layout-1.given.0.0)
-order c = rw c.layout-1.given.1 at c.before.before.find_order.ensures
+order : (c : tie.In-Order-2) → OrderIn c.args.buffer.now (Order c.layout-1.given.0.0)
+order c = rw c.layout-1.given.1 at c.find_order.ensures
 
 returns-2 : tie.Need-returns-then-is_bad_text
 returns-2 c =
     let o = order c.before.before.before in
-    judged-title _ _ o.1 (sym c.before.is_bad_text.ensures ∙ c.if-is_bad_text.true)
+    judged-title _ _ o.1 (sym c.is_bad_text.ensures ∙ c.if-is_bad_text.true)
 
 returns-3 : tie.Need-returns-then-has_bad_value
 returns-3 c =
     let at-title = c.before.before in
     let o = order at-title.before.before.before in
-    judged-value _ _ o.1 (sym at-title.before.is_bad_text.ensures ∙ at-title.if-is_bad_text.false) (sym c.before.has_bad_value.ensures ∙ c.if-has_bad_value.true)
+    judged-value _ _ o.1 (sym at-title.is_bad_text.ensures ∙ at-title.if-is_bad_text.false) (sym c.has_bad_value.ensures ∙ c.if-has_bad_value.true)
 
 returns-4 : tie.Need-returns-then-has_bad_name
 returns-4 c =
@@ -32,9 +32,9 @@ returns-4 c =
     let at-title = at_value.before.before in
     let o = order at-title.before.before.before in
     judged-name _ _ o.1
-    (sym at-title.before.is_bad_text.ensures ∙ at-title.if-is_bad_text.false)
-    (sym at_value.before.has_bad_value.ensures ∙ at_value.if-has_bad_value.false)
-    (sym c.before.has_bad_name.ensures ∙ c.if-has_bad_name.true)
+    (sym at-title.is_bad_text.ensures ∙ at-title.if-is_bad_text.false)
+    (sym at_value.has_bad_value.ensures ∙ at_value.if-has_bad_value.false)
+    (sym c.has_bad_name.ensures ∙ c.if-has_bad_name.true)
 
 returns-5 : tie.Need-returns-then-repeats_key
 returns-5 c =
@@ -43,10 +43,10 @@ returns-5 c =
     let at-title = at_value.before.before in
     let o = order at-title.before.before.before in
     judged-repeated _ _ o.1
-    (sym at-title.before.is_bad_text.ensures ∙ at-title.if-is_bad_text.false)
-    (sym at_value.before.has_bad_value.ensures ∙ at_value.if-has_bad_value.false)
-    (sym at_name.before.has_bad_name.ensures ∙ at_name.if-has_bad_name.false)
-    (sym c.before.repeats_key.ensures ∙ c.if-repeats_key.true)
+    (sym at-title.is_bad_text.ensures ∙ at-title.if-is_bad_text.false)
+    (sym at_value.has_bad_value.ensures ∙ at_value.if-has_bad_value.false)
+    (sym at_name.has_bad_name.ensures ∙ at_name.if-has_bad_name.false)
+    (sym c.repeats_key.ensures ∙ c.if-repeats_key.true)
 
 returns-6 : tie.Need-returns
 returns-6 c =
@@ -56,10 +56,10 @@ returns-6 c =
     let o = order at-title.before.before.before in (
       o.0,
       judged-accepted _ _ o.1
-          (sym at-title.before.is_bad_text.ensures ∙ at-title.if-is_bad_text.false)
-          (sym at_value.before.has_bad_value.ensures ∙ at_value.if-has_bad_value.false)
-          (sym at_name.before.has_bad_name.ensures ∙ at_name.if-has_bad_name.false)
-          (sym c.before.repeats_key.ensures ∙ c.if-repeats_key.false),
+          (sym at-title.is_bad_text.ensures ∙ at-title.if-is_bad_text.false)
+          (sym at_value.has_bad_value.ensures ∙ at_value.if-has_bad_value.false)
+          (sym at_name.has_bad_name.ensures ∙ at_name.if-has_bad_name.false)
+          (sym c.repeats_key.ensures ∙ c.if-repeats_key.false),
     )
 
 pub judge_spec : {M : Type 1} → statement M

@@ -14,15 +14,15 @@ use Rattle.sheet.proofs.layout.find_order.Statement.{statement}
 use Rattle.sheet.proofs.layout.find_order.Tie as tie
 
 returns : tie.Need-returns-in_default
-returns c = order_in-titleless _ (rw c.enum_told-1.given.1 at c.before.before.find_sized.ensures)
+returns c = order_in-titleless _ (rw c.enum_told-1.given.1 at c.find_sized.ensures)
 
 -- the title, from byte 2 on
 title : (c : tie.In-At-2) →
-    let x = c.before.before.before.before.args.buffer.now in
+    let x = c.args.buffer.now in
     let e = c.title-1.given.0.1.0 in
     (text_width ≤ e) × (e < text_width + reach text_width) × (e ≤ length x) × (sized text_width x ≡ some (cut_as (part x text_width e) (drop e x)))
 title c =
-    let f = rw c.title-1.given.1 at c.before.before.find_sized.ensures in
+    let f = rw c.title-1.given.1 at c.find_sized.ensures in
     let a : c.title-1.given.0.0 ≡ text_width = omega arith in
     (omega arith, omega arith, f.3, rw a at f.4)
 
@@ -40,7 +40,7 @@ returns-4 c =
     let at-few = c.before.before in
     let at_test = at-few.before.before in
     let t = title at_test.before.before in
-    order_in-cut _ _ t.3 at_test.if-buffer-title.false _ refl at-few.if-count-gt-PAIR_LIMIT.false (sym c.before.are_pairs.ensures ∙ not-true _ c.if-not-are_pairs.true)
+    order_in-cut _ _ t.3 at_test.if-buffer-title.false _ refl at-few.if-count-gt-PAIR_LIMIT.false (sym c.are_pairs.ensures ∙ not-true _ c.if-not-are_pairs.true)
 
 returns-5 : tie.Need-returns
 unfolding reach
@@ -48,7 +48,7 @@ returns-5 c =
     let at-few = c.before.before in
     let at_test = at-few.before.before in
     let t = title at_test.before.before in
-    let pairs = sym c.before.are_pairs.ensures ∙ not-false _ c.if-not-are_pairs.false in (
+    let pairs = sym c.are_pairs.ensures ∙ not-false _ c.if-not-are_pairs.false in (
       record { from = omega arith; to = at_test.if-buffer-title.false; short = omega arith; few = at-few.if-count-gt-PAIR_LIMIT.false; pairs = pairs },
       order_in-yes _ _ t.3 at_test.if-buffer-title.false _ refl at-few.if-count-gt-PAIR_LIMIT.false pairs,
     )
@@ -63,7 +63,7 @@ find_order_spec =
     returns
     returns-2
     (λ c. omega arith)
-    (λ c. omega (arith, c.shared_slice_known-2-1.given c.before.before.before.title-1.given.0.1.0))
+    (λ c. omega (arith, c.shared_slice_known-2-1.given c.title-1.given.0.1.0))
     returns-3
     (λ c. omega arith)
     (λ c κs. omega arith)

@@ -25,7 +25,7 @@ loop-again c =
     let l = at-loop.loop-i in (
       omega arith,
       simp length-set l.invariant.1,
-      rw l.invariant.2 (laid-turn _ _ _ l.i c.before.loop-i-test.true at-loop.before.requires),
+      rw l.invariant.2 (laid-turn _ _ _ l.i c.loop-i-test.true at-loop.requires),
     )
 
 returns : tie.Need-returns invariant-loop-i decreases-loop-i
@@ -47,5 +47,5 @@ put_spec =
     (λ c. omega arith)
     loop-again
     (λ c. omega arith)
-    (λ c. c.before.loop-i.invariant.1)
+    (λ c. c.loop-i.invariant.1)
     returns)

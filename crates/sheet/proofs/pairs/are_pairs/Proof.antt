@@ -25,10 +25,10 @@ returns c =
     let at_key = c.before.before in
     let at_test = at_key.before in
     let missing = rw c.enum_told-1.given.1 at at_key.find_sized.ensures in
-    sym (are_pairs-no _ _ _ at_test.loop-n-test.true (pair_in-keyless _ missing)) ∙ at_test.before.loop-n.invariant.1
+    sym (are_pairs-no _ _ _ at_test.loop-n-test.true (pair_in-keyless _ missing)) ∙ at_test.loop-n.invariant.1
 
 find-sized-requires-2 : tie.Need-find_sized-requires-in-loop-n invariant-loop-n decreases-loop-n
-find-sized-requires-2 c κs = let key = rw c.before.to-1.given.1 at c.before.before.before.find_sized.ensures in omega arith
+find-sized-requires-2 c κs = let key = rw c.to-1.given.1 at c.find_sized.ensures in omega arith
 
 returns-2 : tie.Need-returns-in_default-find_sized invariant-loop-n decreases-loop-n
 returns-2 c =
@@ -38,7 +38,7 @@ returns-2 c =
     let at_test = at_key.before in
     let key = rw at-to.to-1.given.1 at at_key.find_sized.ensures in
     let missing = rw c.enum_told-in_default-find_sized-1.given.1 at at_value.find_sized-in-loop-n.ensures in
-    sym (are_pairs-no _ _ _ at_test.loop-n-test.true (pair_in-cut _ _ key.4 missing)) ∙ at_test.before.loop-n.invariant.1
+    sym (are_pairs-no _ _ _ at_test.loop-n-test.true (pair_in-cut _ _ key.4 missing)) ∙ at_test.loop-n.invariant.1
 
 loop-again : tie.Need-loop-n-preserved invariant-loop-n decreases-loop-n
 loop-again c =
@@ -50,7 +50,7 @@ loop-again c =
     let key = rw at-to.to-1.given.1 at at_key.find_sized.ensures in
     let value = rw at-end.end-1.given.1 at at_value.find_sized-in-loop-n.ensures in (
       value.3,
-      sym (are_pairs-step _ _ _ at_test.loop-n-test.true _ _ (pair_in-yes _ _ _ key.4 value.4) refl) ∙ at_test.before.loop-n.invariant.1,
+      sym (are_pairs-step _ _ _ at_test.loop-n-test.true _ _ (pair_in-yes _ _ _ key.4 value.4) refl) ∙ at_test.loop-n.invariant.1,
     )
 
 returns-3 : tie.Need-returns invariant-loop-n decreases-loop-n

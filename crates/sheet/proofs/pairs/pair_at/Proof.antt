@@ -8,13 +8,13 @@ use Rattle.sheet.proofs.pairs.pair_at.Statement.{statement}
 use Rattle.sheet.proofs.pairs.pair_at.Tie as tie
 
 add-from : tie.Need-overflow-add-from
-add-from c = let a = c.before.args in omega (arith, has_pair-key a.buffer.now a.at c.before.requires)
+add-from c = let a = c.args in omega (arith, has_pair-key a.buffer.now a.at c.requires)
 
 low-first-requires : tie.Need-low_first-requires
-low-first-requires c κs = let a = c.before.args in omega (arith, has_pair-key a.buffer.now a.at c.before.requires)
+low-first-requires c κs = let a = c.args in omega (arith, has_pair-key a.buffer.now a.at c.requires)
 
 -- the length's bytes of the value
-value_in : (c : tie.After-low_first) → let a = c.before.before.args in a.at + 1 + c.low_first.result + 2 ≤ length a.buffer.now
+value_in : (c : tie.After-low_first) → let a = c.args in a.at + 1 + c.low_first.result + 2 ≤ length a.buffer.now
 value_in c = let start = c.before.before in has_pair-value start.args.buffer.now start.args.at start.requires c.low_first.result c.low_first.ensures.0
 
 add-t7 : tie.Need-overflow-add-t7
@@ -22,16 +22,16 @@ add-t7 c =
     let start = c.before.before.before in
     omega (
       arith,
-      has_pair-end start.args.buffer.now start.args.at start.requires c.before.low_first.result c.before.low_first.ensures.0
+      has_pair-end start.args.buffer.now start.args.at start.requires c.low_first.result c.low_first.ensures.0
           c.low_first-2.result c.low_first-2.ensures.0,
     )
 
 returns : tie.Need-returns
 unfolding reach
 returns c =
-    let key = c.before.low_first.ensures in
+    let key = c.low_first.ensures in
     let value = c.low_first-2.ensures in
-    let has = c.before.before.before.requires in
+    let has = c.requires in
     record {
       spans = record {
         key = omega arith;

@@ -15,10 +15,10 @@ abbrev decreases-loop-n : tie.decreases-loop-n
 decreases-loop-n buffer from count key at₀ n₀ at n = n
 
 loop-holds : tie.Need-loop-n-init invariant-loop-n decreases-loop-n
-loop-holds c = (c.before.before.requires, refl)
+loop-holds c = (c.requires, refl)
 
 pair-at-requires : tie.Need-pair_at-pair-requires invariant-loop-n decreases-loop-n
-pair-at-requires c κs = pairs_first _ _ _ c.before.loop-n.invariant.0 c.loop-n-test.true
+pair-at-requires c κs = pairs_first _ _ _ c.loop-n.invariant.0 c.loop-n-test.true
 
 is-word-requires : tie.Need-is_word-requires invariant-loop-n decreases-loop-n
 is-word-requires c κs = let s = c.pair_at-pair.ensures.spans in omega arith
@@ -27,26 +27,26 @@ returns : tie.Need-returns-then-is_word invariant-loop-n decreases-loop-n
 returns c =
     let at_pair = c.before.before in
     let at_test = at_pair.before in
-    let l = at_test.before.loop-n in
+    let l = at_test.loop-n in
     let s = at_pair.pair_at-pair.ensures.spans in (
       s.value,
       s.inside,
       l.invariant.1
-          ∙ value_for-here _ _ _ l.invariant.0 at_test.loop-n-test.true _ at_pair.pair_at-pair.ensures _ (sym c.before.is_IsWord.ensures ∙ c.if-is_word.true),
+          ∙ value_for-here _ _ _ l.invariant.0 at_test.loop-n-test.true _ at_pair.pair_at-pair.ensures _ (sym c.is_IsWord.ensures ∙ c.if-is_word.true),
     )
 
 loop-again : tie.Need-loop-n-preserved invariant-loop-n decreases-loop-n
 loop-again c =
     let at_pair = c.before.before in
     let at_test = at_pair.before in
-    let l = at_test.before.loop-n in (
+    let l = at_test.loop-n in (
       pairs-left _ _ _ l.invariant.0 at_test.loop-n-test.true _ at_pair.pair_at-pair.ensures,
       l.invariant.1
-          ∙ value_for-skip _ _ _ l.invariant.0 at_test.loop-n-test.true _ at_pair.pair_at-pair.ensures _ (sym c.before.is_IsWord.ensures ∙ c.if-is_word.false),
+          ∙ value_for-skip _ _ _ l.invariant.0 at_test.loop-n-test.true _ at_pair.pair_at-pair.ensures _ (sym c.is_IsWord.ensures ∙ c.if-is_word.false),
     )
 
 returns-2 : tie.Need-returns invariant-loop-n decreases-loop-n
-returns-2 c = c.before.loop-n.invariant.1 ∙ value_for-none _ _ _ _ c.loop-n-test.false
+returns-2 c = c.loop-n.invariant.1 ∙ value_for-none _ _ _ _ c.loop-n-test.false
 
 pub find_value_spec : {M : Type 1} → statement M
 find_value_spec =

@@ -31,10 +31,10 @@ put-between-requires c κs =
 
 -- the key is laid
 key : (c : tie.After-put_between-end) →
-    let a = c.before.before.before.before.before.before.before.args in
+    let a = c.args in
     Puts a.out-1.now a.at (marked_key (pair_of a.buffer.now a.pair).key) c.put_between-end.new.0 c.put_between-end.result
 unfolding marked_key word
-key c = rw (part_slice _ _ _ c.before.before.before.before.before.before.before.requires.0.key) at c.put_between-end.ensures
+key c = rw (part_slice _ _ _ c.requires.0.key) at c.put_between-end.ensures
 
 put-value-requires : tie.Need-put_value-end-requires
 put-value-requires c κs =

@@ -23,34 +23,34 @@ abbrev decreases-loop-n : tie.decreases-loop-n
 decreases-loop-n buffer from count out₀ at here₀ n₀ to₀ out here n to = n
 
 loop-holds : tie.Need-loop-n-init invariant-loop-n decreases-loop-n
-loop-holds c = let p = c.before.before.requires in (p.0, refl, p.1, λ d e h. h)
+loop-holds c = let p = c.requires in (p.0, refl, p.1, λ d e h. h)
 
 pair-at-requires : tie.Need-pair_at-pair-requires invariant-loop-n decreases-loop-n
-pair-at-requires c κs = pairs_first _ _ _ c.before.loop-n.invariant.0 c.loop-n-test.true
+pair-at-requires c κs = pairs_first _ _ _ c.loop-n.invariant.0 c.loop-n-test.true
 
 -- the lines left are this pair's and the others
 left : (c : tie.After-pair_at-pair invariant-loop-n decreases-loop-n) →
-    let l = c.before.before.loop-n in
-    let x = c.before.before.before.before.before.args.buffer.now in
+    let l = c.loop-n in
+    let x = c.args.buffer.now in
     let r = c.pair_at-pair.result in
     let rest = join (pair_lines (pairs_at x r.end (l.n - 1))) in
     (join (pair_lines (pairs_at x l.here l.n)) ≡ pair_line (pair_of x r) ++ rest) × (l.to + length (pair_line (pair_of x r)) + length rest ≤ length l.out-1)
 left c =
-    let l = c.before.before.loop-n in
-    let x = c.before.before.before.before.before.args.buffer.now in
+    let l = c.loop-n in
+    let x = c.args.buffer.now in
     let r = c.pair_at-pair.result in
-    let step = lines_step x l.here l.n l.invariant.0 c.before.loop-n-test.true r c.pair_at-pair.ensures in
+    let step = lines_step x l.here l.n l.invariant.0 c.loop-n-test.true r c.pair_at-pair.ensures in
     (step, omega (arith, ap length step, length-append (pair_line (pair_of x r)) (join (pair_lines (pairs_at x r.end (l.n - 1)))), l.invariant.2))
 
 put-pair-requires : tie.Need-put_pair-to-requires invariant-loop-n decreases-loop-n
-put-pair-requires c κs = (c.before.pair_at-pair.ensures.spans, omega (arith, (left c.before).1))
+put-pair-requires c κs = (c.pair_at-pair.ensures.spans, omega (arith, (left c.before).1))
 
 loop-again : tie.Need-loop-n-preserved invariant-loop-n decreases-loop-n
 loop-again c =
     let at-put = c.before.before in
     let at_pair = at-put.before.before in
     let at_test = at_pair.before in
-    let l = at_test.before.loop-n in
+    let l = at_test.loop-n in
     let f = left at_pair in (
       pairs-left _ _ _ l.invariant.0 at_test.loop-n-test.true _ at_pair.pair_at-pair.ensures,
       at-put.put_pair-to.auto.1.1.0 ∙ l.invariant.1,
@@ -60,7 +60,7 @@ loop-again c =
 
 returns : tie.Need-returns invariant-loop-n decreases-loop-n
 returns c =
-    let l = c.before.loop-n in
+    let l = c.loop-n in
     l.invariant.3 _ _ (rw (lines_none _ _ _ c.loop-n-test.false) (puts-nil _ _))
 
 pub put_pairs_spec : {M : Type 1} → statement M
@@ -75,5 +75,5 @@ put_pairs_spec =
     (λ c. omega arith)
     (λ c. omega arith)
     loop-again
-    (λ c. c.before.loop-n.invariant.1)
+    (λ c. c.loop-n.invariant.1)
     returns)

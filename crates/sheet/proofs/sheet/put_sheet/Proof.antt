@@ -31,10 +31,10 @@ put-between-requires c κs =
 
 -- the title is laid
 title : (c : tie.After-put_between-to) →
-    let a = c.before.before.before.before.before.before.before.args in
+    let a = c.args in
     Puts a.out-1.now 0 (title_line (order_at a.buffer.now a.layout).title) c.put_between-to.new.0 c.put_between-to.result
 unfolding title_line word
-title c = rw (part_slice _ _ _ c.before.before.before.before.before.before.before.requires.0.from) at c.put_between-to.ensures
+title c = rw (part_slice _ _ _ c.requires.0.from) at c.put_between-to.ensures
 
 put-requires : tie.Need-put-to-requires
 put-requires c κs =
@@ -108,9 +108,9 @@ put_sheet_spec =
     tie.close
     (tie.spec
     (λ c. search rules)
-    (λ c. let l = c.before.before.before.before.requires.0 in omega arith)
-    (λ c. let l = c.before.before.before.before.requires.0 in omega arith)
-    (λ c. let l = c.before.before.before.before.requires.0 in omega arith)
+    (λ c. let l = c.requires.0 in omega arith)
+    (λ c. let l = c.requires.0 in omega arith)
+    (λ c. let l = c.requires.0 in omega arith)
     (λ c. search rules)
     put-between-requires
     (λ c. search rules)

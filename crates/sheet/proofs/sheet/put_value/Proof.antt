@@ -15,13 +15,13 @@ use Rattle.sheet.proofs.sheet.put_value.Tie as tie
 
 returns : tie.Need-returns-then-end-value
 returns c =
-    let a = c.before.before.before.args in
-    let v = part_length a.buffer.now a.value a.end c.before.before.before.requires.1 in
+    let a = c.args in
+    let v = part_length a.buffer.now a.value a.end c.requires.1 in
     rw (spaced-none (part a.buffer.now a.value a.end) (omega arith)) (puts-nil _ _)
 
 -- the value is not empty, and there is room
 full : (c : tie.Else-end-value) →
-    let a = c.before.before.before.args in
+    let a = c.args in
     let v = part a.buffer.now a.value a.end in
     (spaced v ≡ 32 ∷ v) × (a.at + 1 + length v ≤ length a.out-1.now)
 full c =
@@ -45,7 +45,7 @@ put-requires-2 c κs =
     (omega (arith, (full at_test).1, at-put.put-to.auto.0, at-put.put-to.ensures.next))
 
 same_length : tie.Need-shape_of-out
-same_length c = c.before.before.put.auto.0 ∙ c.before.before.before.before.before.before.before.put-to.auto.0
+same_length c = c.put.auto.0 ∙ c.put-to.auto.0
 
 returns-2 : tie.Need-returns
 returns-2 c =
@@ -53,7 +53,7 @@ returns-2 c =
     let at-put = at-put2.before.before.before.before.before in
     let at_test = at-put.before.before.before in
     let f = full at_test in
-    rw f.0 (puts-append at-put.put-to.ensures (rw (part_slice _ _ _ at_test.before.before.before.requires.0) at at-put2.put.ensures) (omega (arith, f.1)))
+    rw f.0 (puts-append at-put.put-to.ensures (rw (part_slice _ _ _ at_test.requires.0) at at-put2.put.ensures) (omega (arith, f.1)))
 
 pub put_value_spec : {M : Type 1} → statement M
 put_value_spec =

@@ -22,17 +22,17 @@ abbrev decreases-loop-n : tie.decreases-loop-n
 decreases-loop-n buffer from count at₀ n₀ size₀ at n size = n
 
 loop-holds : tie.Need-loop-n-init invariant-loop-n decreases-loop-n
-loop-holds c = (c.before.requires.0, omega arith, c.before.requires.1, omega arith, zero-add _)
+loop-holds c = (c.requires.0, omega arith, c.requires.1, omega arith, zero-add _)
 
 pair-at-requires : tie.Need-pair_at-pair-requires invariant-loop-n decreases-loop-n
-pair-at-requires c κs = pairs_first _ _ _ c.before.loop-n.invariant.0 c.loop-n-test.true
+pair-at-requires c κs = pairs_first _ _ _ c.loop-n.invariant.0 c.loop-n-test.true
 
 loop-again : tie.Need-loop-n-preserved invariant-loop-n decreases-loop-n
 loop-again c =
     let at_pair = c.before in
     let at_test = at_pair.before in
-    let l = at_test.before.loop-n in
-    let x = at_test.before.before.before.args.buffer.now in
+    let l = at_test.loop-n in
+    let x = at_test.args.buffer.now in
     let r = at_pair.pair_at-pair.result in
     let step = lines_step x l.at l.n l.invariant.0 at_test.loop-n-test.true r at_pair.pair_at-pair.ensures in
     let more = length-append (pair_line (pair_of x r)) (join (pair_lines (pairs_at x r.end (l.n - 1)))) in (
@@ -45,8 +45,8 @@ loop-again c =
 
 returns : tie.Need-returns invariant-loop-n decreases-loop-n
 returns c =
-    let l = c.before.loop-n in
-    let x = c.before.before.before.args.buffer.now in
+    let l = c.loop-n in
+    let x = c.args.buffer.now in
     (omega (arith, ap length (lines_none x l.at l.n c.loop-n-test.false)), omega arith)
 
 pub pairs_size_spec : {M : Type 1} → statement M

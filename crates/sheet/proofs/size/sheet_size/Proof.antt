@@ -8,7 +8,7 @@ use Rattle.sheet.proofs.size.sheet_size.Statement.{statement}
 use Rattle.sheet.proofs.size.sheet_size.Tie as tie
 
 pairs-size-requires : tie.Need-pairs_size-requires
-pairs-size-requires c κs = let l = c.before.requires in (l.pairs, l.few)
+pairs-size-requires c κs = let l = c.requires in (l.pairs, l.few)
 
 returns : tie.Need-returns
 returns c =

@@ -13,15 +13,15 @@ use Rattle.sheet.proofs.write.write_sheet.Tie as tie
 returns : tie.Need-returns-in-Refused
 returns c =
     let at-number = c.before.before in
-    let x = at-number.before.before.before.before.before.args.order.now in
+    let x = at-number.args.order.now in
     let n = at-number.number-1.given.0.0 in
-    let refused = rw at-number.number-1.given.1 at at-number.before.before.judge.ensures in
+    let refused = rw at-number.number-1.given.1 at at-number.judge.ensures in
     let a = answers c.answered.ensures refl (write-refused _ _ n refused) in
     record { answers = a; written = λ h. absurd (omega (arith, judged-number x n refused, rw c.answered.ensures at h)) }
 
 -- the order is good
-good : (c : tie.In-Good-2) → JudgedAs c.before.before.before.before.before.args.order.now (Good c.layout-1.given.0.0)
-good c = rw c.layout-1.given.1 at c.before.before.judge.ensures
+good : (c : tie.In-Good-2) → JudgedAs c.args.order.now (Good c.layout-1.given.0.0)
+good c = rw c.layout-1.given.1 at c.judge.ensures
 
 returns-2 : tie.Need-returns-in-Good
 returns-2 c =
@@ -43,5 +43,5 @@ write_sheet_spec =
     (λ c. search rules)
     (λ c κs. (good c.before.before).0)
     returns
-    (λ c. c.before.before.write_good.auto.1.1.0)
+    (λ c. c.write_good.auto.1.1.0)
     returns-2)

@@ -7,19 +7,19 @@ use Rattle.stream.proofs.advance.begin_line.Statement.{statement}
 use Rattle.stream.proofs.advance.begin_line.Tie as tie
 
 returns : tie.Need-returns-then-b-eq10
-returns c = c.next_line.ensures ∙ sym (stepped-newline _ _ c.before.if-b-eq10.true)
+returns c = c.next_line.ensures ∙ sym (stepped-newline _ _ c.if-b-eq10.true)
 
 returns-2 : tie.Need-returns-in-42
-returns-2 c = let start = c.before.before in simp towards_suc (sym (stepped-star _ _ c.before.if-b-eq10.false start.requires.2 c.in-42.keys1))
+returns-2 c = let start = c.before.before in simp towards_suc (sym (stepped-star _ _ c.if-b-eq10.false start.requires.2 c.in-42.keys1))
 
 returns-3 : tie.Need-returns-in-32
-returns-3 c = let start = c.before.before in simp towards_suc (sym (stepped-space _ _ c.before.if-b-eq10.false start.requires.2 c.in-42.keys2))
+returns-3 c = let start = c.before.before in simp towards_suc (sym (stepped-space _ _ c.if-b-eq10.false start.requires.2 c.in-42.keys2))
 
 returns-4 : tie.Need-returns-in_default
 returns-4 c =
     let start = c.before.before in
     let r = c.in-42.rest in
-    simp towards_suc (sym (stepped-none _ _ c.before.if-b-eq10.false start.requires.2 r.0.1 r.1))
+    simp towards_suc (sym (stepped-none _ _ c.if-b-eq10.false start.requires.2 r.0.1 r.1))
 
 pub begin_line_spec : {M : Type 1} → statement M
 begin_line_spec =

@@ -24,14 +24,14 @@ loop-holds c = let a = c.args in (c.requires.0, omega arith, rw (part-nil a.byte
 
 returns : tie.Need-returns-then-bytes-i-eq10 invariant-loop-i decreases-loop-i
 returns c =
-    let l = c.before.before.before.loop-i in
+    let l = c.loop-i in
     record { from = l.invariant.0; to = l.invariant.1; plain = l.invariant.2; newline = λ h. c.if-bytes-i-eq10.true }
 
 loop-again : tie.Need-loop-i-preserved invariant-loop-i decreases-loop-i
 unfolding all
 loop-again c =
     let at_test = c.before.before in
-    let l = at_test.before.loop-i in
+    let l = at_test.loop-i in
     let start = at_test.before.before in
     let x = start.args.bytes.now in
     let e = start.args.to in
@@ -42,7 +42,7 @@ loop-again c =
 
 returns-2 : tie.Need-returns invariant-loop-i decreases-loop-i
 returns-2 c =
-    let l = c.before.loop-i in
+    let l = c.loop-i in
     record { from = l.invariant.0; to = l.invariant.1; plain = l.invariant.2; newline = λ h. absurd (omega (arith, h, c.loop-i-test.false)) }
 
 pub last_line_spec : {M : Type 1} → statement M
@@ -53,7 +53,7 @@ last_line_spec =
     decreases-loop-i
     loop-holds
     (λ c. omega arith)
-    (λ c. omega (arith, c.before.before.loop-i.invariant.1, c.before.before.before.requires.1))
+    (λ c. omega (arith, c.loop-i.invariant.1, c.requires.1))
     returns
     (λ c. omega arith)
     (λ c. omega arith)

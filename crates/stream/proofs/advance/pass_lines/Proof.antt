@@ -8,17 +8,17 @@ use Rattle.stream.proofs.advance.pass_lines.Tie as tie
 returns : tie.Need-returns-then-start-at
 returns c =
     let at_last = c.before.before.before in
-    let pre = at_last.before.before.before.requires in
-    advance-plain _ _ _ pre.0 pre.1 pre.2 _ at_last.before.next_star_line-end.ensures _ at_last.last_Line.ensures
-    c.before.before.if-start-at.true
+    let pre = at_last.requires in
+    advance-plain _ _ _ pre.0 pre.1 pre.2 _ at_last.next_star_line-end.ensures _ at_last.last_Line.ensures
+    c.if-start-at.true
     refl
 
 returns-2 : tie.Need-returns
 returns-2 c =
     let at_last = c.before.before in
-    let pre = at_last.before.before.before.requires in
-    advance-lines _ _ _ pre.0 pre.1 pre.2 _ at_last.before.next_star_line-end.ensures _ at_last.last_Line.ensures
-    c.before.if-start-at.false
+    let pre = at_last.requires in
+    advance-lines _ _ _ pre.0 pre.1 pre.2 _ at_last.next_star_line-end.ensures _ at_last.last_Line.ensures
+    c.if-start-at.false
     refl
 
 pub pass_lines_spec : {M : Type 1} → statement M

@@ -17,44 +17,44 @@ use Rattle.stream.proofs.advance.title_after.Statement.{statement}
 use Rattle.stream.proofs.advance.title_after.Tie as tie
 
 -- where the last non-blank byte ends
-end : (c : tie.After-trim_end-end) → let a = c.before.before.args in
+end : (c : tie.After-trim_end-end) → let a = c.args in
     c.trim_end-end.result - a.from ≡ length (trim_end (part a.bytes.now a.from a.to))
 end c = omega (arith, c.trim_end-end.ensures)
 
-heading : (c : tie.After-trim_end-end) → in_heading c.before.before.args.state ≡ true
-heading c = let pre = c.before.before.requires in heading-yes _ pre.some pre.past
+heading : (c : tie.After-trim_end-end) → in_heading c.args.state ≡ true
+heading c = let pre = c.requires in heading-yes _ pre.some pre.past
 
 returns : tie.Need-returns-then-end-from
 returns c =
     let at-trim = c.before in
-    let pre = at-trim.before.before.requires in
+    let pre = at-trim.requires in
     sym (fed-blank _ _ pre.bytes pre.past (heading at-trim) (omega (arith, end at-trim, c.if-end-from.true)))
 
 trim_end-le : (x : List ℕ) → length (trim_end x) ≤ length x
 trim_end-le x = omega (arith, ap length (trim_end-take x), length-take (length (trim_end x)) x)
 
 -- it has room in the book
-title-fits : (c : tie.After-trim_end-end) → let a = c.before.before.args in c.trim_end-end.result - a.from ≤ a.to - a.from
+title-fits : (c : tie.After-trim_end-end) → let a = c.args in c.trim_end-end.result - a.from ≤ a.to - a.from
 title-fits c =
-    let a = c.before.before.args in
+    let a = c.args in
     let x = part a.bytes.now a.from a.to in
-    omega (arith, end c, trim_end-le x, part_length a.bytes.now a.from a.to c.before.before.requires.to)
+    omega (arith, end c, trim_end-le x, part_length a.bytes.now a.from a.to c.requires.to)
 
 cast-result : tie.Need-overflow-cast-result
-cast-result c = omega (arith, title-fits c.before.before, c.before.before.before.before.requires.total)
+cast-result c = omega (arith, title-fits c.before.before, c.requires.total)
 
 add-result : tie.Need-overflow-add-result
 add-result c =
-    let pre = c.before.before.before.before.requires in
+    let pre = c.requires in
     omega (arith, title-fits c.before.before, pre.total, pre.line)
 
 returns-2 : tie.Need-returns
 returns-2 c =
     let at-trim = c.before.before in
-    let a = at-trim.before.before.args in
-    let pre = at-trim.before.before.requires in
+    let a = at-trim.args in
+    let pre = at-trim.requires in
     ap (λ (n : ℕ). a.state.line - a.state.stars - 1 + n) (end at-trim)
-    ∙ sym (fed-title _ _ pre.bytes pre.past (heading at-trim) (omega (arith, end at-trim, c.before.if-end-from.false)))
+    ∙ sym (fed-title _ _ pre.bytes pre.past (heading at-trim) (omega (arith, end at-trim, c.if-end-from.false)))
 
 pub title_after_spec : {M : Type 1} → statement M
 title_after_spec =

@@ -19,37 +19,37 @@ use Rattle.stream.proofs.call.end.Tie as tie
 
 returns : tie.Need-returns-then-not-is_open
 returns c =
-    let o = sym c.before.before.is_open.ensures ∙ not-true _ c.before.if-not-is_open.true in
+    let o = sym c.is_open.ensures ∙ not-true _ c.if-not-is_open.true in
     end-settled _ _ _ _ (answers c.answered.ensures (end-closed _ _ o))
 
-opened : (c : tie.Else-not-is_open) → is_open c.before.before.before.args.state ≡ true
-opened c = sym c.before.is_open.ensures ∙ not-false _ c.if-not-is_open.false
+opened : (c : tie.Else-not-is_open) → is_open c.args.state ≡ true
+opened c = sym c.is_open.ensures ∙ not-false _ c.if-not-is_open.false
 
 heading-of-requires : tie.Need-heading_of-finished-requires
 heading-of-requires c κs = (tests _ (opened c)).line
 
 -- it is judged by the last line
-given : (c : tie.Else-not-is_open) → let a = c.before.before.before.args in
+given : (c : tie.Else-not-is_open) → let a = c.args in
     end a.state a.list-1.now ≡ handed_out a.state a.list-1.now (last_heading a.state) (with_end a.state)
 given c = end-open _ _ (opened c)
 
-counted : (c : tie.After-count_of-count) → c.count_of-count.result ≡ length (last_heading c.before.before.before.before.before.args.state)
-counted c = c.count_of-count.ensures ∙ ap length c.before.heading_of-finished.ensures
+counted : (c : tie.After-count_of-count) → c.count_of-count.result ≡ length (last_heading c.args.state)
+counted c = c.count_of-count.ensures ∙ ap length c.heading_of-finished.ensures
 
 returns-2 : tie.Need-returns-then-list-count
 returns-2 c =
     let at_count = c.before.before in
-    end-settled _ _ _ _ (rw (given at_count.before.before) (answers-short _ _ _ _ c.answered-then-list-count.ensures (counted at_count) c.before.if-list-count.true))
+    end-settled _ _ _ _ (rw (given at_count.before.before) (answers-short _ _ _ _ c.answered-then-list-count.ensures (counted at_count) c.if-list-count.true))
 
 -- what it gives has room in the list
 room-enough : (c : tie.Else-list-count) →
-    length (headings_of c.before.before.heading_of-finished.result) ≤ room c.before.before.before.before.before.before.args.list-1.now
-room-enough c = omega (arith, c.if-list-count.false, c.before.count_of-count.ensures)
+    length (headings_of c.heading_of-finished.result) ≤ room c.args.list-1.now
+room-enough c = omega (arith, c.if-list-count.false, c.count_of-count.ensures)
 
 put-requires : tie.Need-put-requires
 put-requires c κs =
-    let l = c.before.before.before.before.before.before.before.args.list-1.now in
-    omega (arith, numbers-room (headings_of c.before.before.before.heading_of-finished.result) l (room-enough c.before))
+    let l = c.args.list-1.now in
+    omega (arith, numbers-room (headings_of c.heading_of-finished.result) l (room-enough c.before))
 
 returns-3 : tie.Need-returns
 returns-3 c =
@@ -61,10 +61,10 @@ returns-3 c =
     (rw (given at_count.before.before)
     (answers-done _ _ _ _
     c.answered-2.ensures
-    c.before.with_end.ensures
+    c.with_end.ensures
     (counted at_count)
     at_room.if-list-count.false
-    (rw at_count.before.heading_of-finished.ensures at list)))
+    (rw at_count.heading_of-finished.ensures at list)))
 
 pub end_spec : {M : Type 1} → statement M
 end_spec =

@@ -19,11 +19,11 @@ use Rattle.stream.proofs.call.piece.Tie as tie
 
 returns : tie.Need-returns-then-not-is_open
 returns c =
-    let o = sym c.before.before.is_open.ensures ∙ not-true _ c.before.if-not-is_open.true in
+    let o = sym c.is_open.ensures ∙ not-true _ c.if-not-is_open.true in
     settled _ _ _ _ _ (answers c.answered.ensures (piece-closed _ _ _ o))
 
-opened : (c : tie.Else-not-is_open) → is_open c.before.before.before.before.args.state ≡ true
-opened c = sym c.before.is_open.ensures ∙ not-false _ c.if-not-is_open.false
+opened : (c : tie.Else-not-is_open) → is_open c.args.state ≡ true
+opened c = sym c.is_open.ensures ∙ not-false _ c.if-not-is_open.false
 
 sub-if2 : tie.Need-overflow-sub-if2
 sub-if2 c = (tests _ (opened c.before)).total
@@ -35,10 +35,10 @@ returns-2 c =
     settled _ _ _ _ _ (answers c.answered-then-state-bytes.ensures (piece-long _ _ _ o (omega (arith, at-limit.if-state-bytes.true, (tests _ o).total))))
 
 -- the piece has room in the book
-fits : (c : tie.Else-state-bytes) → let a = c.before.before.before.before.before.before.args in a.state.total + length a.bytes.now ≤ text_limit
+fits : (c : tie.Else-state-bytes) → let a = c.args in a.state.total + length a.bytes.now ≤ text_limit
 fits c = omega (arith, c.if-state-bytes.false, (tests _ (opened c.before.before)).total)
 
-within : (c : tie.Else-state-bytes) → let a = c.before.before.before.before.before.before.args in Within a.state a.bytes.now 0
+within : (c : tie.Else-state-bytes) → let a = c.args in Within a.state a.bytes.now 0
 within c =
     let o = opened c.before.before in
     record { stars = open-stars _ o; line = (tests _ o).line; total = omega (arith, fits c) }
@@ -47,7 +47,7 @@ count-finished-requires : tie.Need-count_finished-count-requires
 count-finished-requires c κs = within c
 
 -- it is judged by what it finishes
-given : (c : tie.Else-state-bytes) → let a = c.before.before.before.before.before.before.args in
+given : (c : tie.Else-state-bytes) → let a = c.args in
     piece a.state a.bytes.now a.list-1.now ≡ handed_out a.state a.list-1.now (finished a.state a.bytes.now) (fed a.state a.bytes.now)
 given c = piece-open _ _ _ (opened c.before.before) (fits c)
 
@@ -56,16 +56,16 @@ returns-3 c =
     let at_room = c.before in
     let at-limit = at_room.before.before in
     settled _ _ _ _ _
-    (rw (given at-limit) (answers-short _ _ _ _ c.answered-then-list-count.ensures at_room.before.count_finished-count.ensures at_room.if-list-count.true))
+    (rw (given at-limit) (answers-short _ _ _ _ c.answered-then-list-count.ensures at_room.count_finished-count.ensures at_room.if-list-count.true))
 
 -- what it finishes has room in the list
-room-enough : (c : tie.Else-list-count) → let a = c.before.before.before.before.before.before.before.before.args in
+room-enough : (c : tie.Else-list-count) → let a = c.args in
     length (finished a.state a.bytes.now) ≤ room a.list-1.now
-room-enough c = omega (arith, c.if-list-count.false, c.before.count_finished-count.ensures)
+room-enough c = omega (arith, c.if-list-count.false, c.count_finished-count.ensures)
 
 put-finished-requires : tie.Need-put_finished-requires
 put-finished-requires c κs =
-    let a = c.before.before.before.before.before.before.before.before.before.args in
+    let a = c.args in
     (within c.before.before.before, numbers-room (finished a.state a.bytes.now) a.list-1.now (room-enough c.before))
 
 returns-4 : tie.Need-returns
@@ -74,7 +74,7 @@ returns-4 c =
     let at_room = at-put.before.before in
     let at-limit = at_room.before.before in
     let put = at-put.put_finished.ensures in
-    let n = at_room.before.count_finished-count.ensures in
+    let n = at_room.count_finished-count.ensures in
     settled _ _ _ _ _ (rw (given at-limit) (answers-done _ _ _ _ c.answered-2.ensures put.0 n at_room.if-list-count.false put.1))
 
 pub piece_spec : {M : Type 1} → statement M

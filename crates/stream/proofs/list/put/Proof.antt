@@ -15,7 +15,7 @@ put-heading-requires : tie.Need-put_heading-requires
 unfolding headings_of numbers
 put-heading-requires c κs =
     let start = c.before.before.before.before.before in
-    omega (arith, rw c.before.before.finished-1.given.1 at start.requires)
+    omega (arith, rw c.finished-1.given.1 at start.requires)
 
 returns-2 : tie.Need-returns
 unfolding headings_of numbers

@@ -28,19 +28,19 @@ loop-holds : tie.Need-loop-at-init invariant-loop-at decreases-loop-at
 loop-holds c = let start = c.before.before in (omega arith, start.requires.0, refl, omega (arith, start.requires.1), refl, refl)
 
 advance-requires : tie.Need-advance-next-requires invariant-loop-at decreases-loop-at
-advance-requires c κs = (c.before.loop-at.invariant.1, c.loop-at-test.true)
+advance-requires c κs = (c.loop-at.invariant.1, c.loop-at-test.true)
 
 -- what is left to write: what the bytes up to the next finish, and what those after them do
 left : (c : tie.After-advance-next invariant-loop-at decreases-loop-at) →
-    let l = c.before.before.loop-at in
-    let x = c.before.before.before.before.before.args.bytes.now-1 in
+    let l = c.loop-at in
+    let x = c.args.bytes.now-1 in
     let r = c.advance-next.result in
     let rest = numbers (finished r.state (drop r.at x)) in
     (numbers (finished l.now-1 (drop l.at x)) ≡ numbers (headings_of r.finished) ++ rest)
     × (l.to + length (numbers (headings_of r.finished)) + length rest ≤ length l.list-1)
 left c =
-    let l = c.before.before.loop-at in
-    let x = c.before.before.before.before.before.args.bytes.now-1 in
+    let l = c.loop-at in
+    let x = c.args.bytes.now-1 in
     let r = c.advance-next.result in
     let rest = finished r.state (drop r.at x) in
     let e = ap numbers c.advance-next.ensures.headings ∙ numbers-append (headings_of r.finished) rest in
@@ -50,15 +50,15 @@ put-requires : tie.Need-put-to-requires invariant-loop-at decreases-loop-at
 put-requires c κs = omega (arith, (left c.before).1)
 
 loop-less : tie.Need-loop-at-smaller invariant-loop-at decreases-loop-at
-loop-less c = let a = c.before.before.before.before.before.advance-next.ensures in omega (arith, a.further, a.inside)
+loop-less c = let a = c.advance-next.ensures in omega (arith, a.further, a.inside)
 
 loop-again : tie.Need-loop-at-preserved invariant-loop-at decreases-loop-at
 loop-again c =
     let at-put = c.before.before.before in
     let at-advance = at-put.before.before in
     let a = at-advance.advance-next.ensures in
-    let l = at-advance.before.before.loop-at in
-    let x = at-advance.before.before.before.before.before.args.bytes.now-1 in
+    let l = at-advance.loop-at in
+    let x = at-advance.args.bytes.now-1 in
     let r = at-advance.advance-next.result in
     let rest = numbers (finished r.state (drop r.at x)) in
     let f = left at-advance in
@@ -73,13 +73,13 @@ loop-again c =
     )
 
 same_length : tie.Need-shape_of-list invariant-loop-at decreases-loop-at
-same_length c = c.before.loop-at.invariant.2
+same_length c = c.loop-at.invariant.2
 
 returns : tie.Need-returns invariant-loop-at decreases-loop-at
 unfolding finished fed numbers
 returns c =
-    let l = c.before.loop-at in
-    let none = drop_of_length-le c.before.before.before.before.args.bytes.now-1 c.loop-at-test.false in
+    let l = c.loop-at in
+    let none = drop_of_length-le c.args.bytes.now-1 c.loop-at-test.false in
     (rw none at l.invariant.4, rw none at l.invariant.5)
 
 pub put_finished_spec : {M : Type 1} → statement M

@@ -8,7 +8,7 @@ use Rattle.stream.proofs.state.in_heading.Tie as tie
 
 returns : tie.Need-returns-then-state-gt0
 unfolding in_heading
-returns c = rw (lt-ltb 0 _ c.before.if-state-gt0.true)
+returns c = rw (lt-ltb 0 _ c.if-state-gt0.true)
 
 returns-2 : tie.Need-returns-else-state-gt0
 returns-2 c = le-ltb 0 _ c.if-state-gt0.false ∙ sym (heading-bare _ c.if-state-gt0.false)

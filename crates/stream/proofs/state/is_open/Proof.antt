@@ -55,13 +55,13 @@ returns : tie.Need-returns-then-state-ne0
 returns c = closed _ c.if-state-ne0.true
 
 returns-2 : tie.Need-returns-then-state-gt-TEXT
-returns-2 c = long _ c.before.before.if-state-ne0.false c.if-state-gt-TEXT.true
+returns-2 c = long _ c.if-state-ne0.false c.if-state-gt-TEXT.true
 
 returns-3 : tie.Need-returns-then-state
-returns-3 c = outside _ c.before.before.before.before.if-state-ne0.false c.before.before.if-state-gt-TEXT.false c.if-state.true
+returns-3 c = outside _ c.if-state-ne0.false c.if-state-gt-TEXT.false c.if-state.true
 
-heading : (c : tie.Then-in_heading) → in_heading c.before.before.before.before.before.before.before.before.args.state ≡ true
-heading c = sym c.before.in_heading.ensures ∙ c.if-in_heading.true
+heading : (c : tie.Then-in_heading) → in_heading c.args.state ≡ true
+heading c = sym c.in_heading.ensures ∙ c.if-in_heading.true
 
 sub-result : tie.Need-overflow-sub-result
 sub-result c = heading-le _ (heading c.before)
@@ -70,17 +70,17 @@ returns-4 : tie.Need-returns-then-in_heading
 returns-4 c =
     let at-line = c.before.before.before.before in
     let at-total = at-line.before.before in
-    by-title _ at-total.before.before.if-state-ne0.false at-total.if-state-gt-TEXT.false at-line.if-state.false (heading c.before.before)
+    by-title _ at-total.if-state-ne0.false at-total.if-state-gt-TEXT.false at-line.if-state.false (heading c.before.before)
 
-no-heading : (c : tie.Else-in_heading) → in_heading c.before.before.before.before.before.before.before.before.args.state ≡ false
-no-heading c = sym c.before.in_heading.ensures ∙ c.if-in_heading.false
+no-heading : (c : tie.Else-in_heading) → in_heading c.args.state ≡ false
+no-heading c = sym c.in_heading.ensures ∙ c.if-in_heading.false
 
 returns-5 : tie.Need-returns-then-state-ne0-2
 returns-5 c =
     let at-heading = c.before.before in
     let at-line = at-heading.before.before in
     let at-total = at-line.before.before in
-    titled _ at-total.before.before.if-state-ne0.false at-total.if-state-gt-TEXT.false at-line.if-state.false (no-heading at-heading) c.if-state-ne0-2.true
+    titled _ at-total.if-state-ne0.false at-total.if-state-gt-TEXT.false at-line.if-state.false (no-heading at-heading) c.if-state-ne0-2.true
 
 returns-6 : tie.Need-returns-then-state-eq0
 returns-6 c =
@@ -88,7 +88,7 @@ returns-6 c =
     let at-heading = at-title.before.before in
     let at-line = at-heading.before.before in
     let at-total = at-line.before.before in
-    bare _ at-total.before.before.if-state-ne0.false at-total.if-state-gt-TEXT.false at-line.if-state.false (no-heading at-heading) at-title.if-state-ne0-2.false c.if-state-eq0.true
+    bare _ at-total.if-state-ne0.false at-total.if-state-gt-TEXT.false at-line.if-state.false (no-heading at-heading) at-title.if-state-ne0-2.false c.if-state-eq0.true
 
 returns-7 : tie.Need-returns-else-state-eq0
 returns-7 c =
@@ -97,7 +97,7 @@ returns-7 c =
     let at-heading = at-title.before.before in
     let at-line = at-heading.before.before in
     let at-total = at-line.before.before in
-    by-stars _ at-total.before.before.if-state-ne0.false at-total.if-state-gt-TEXT.false at-line.if-state.false (no-heading at-heading) at-title.if-state-ne0-2.false
+    by-stars _ at-total.if-state-ne0.false at-total.if-state-gt-TEXT.false at-line.if-state.false (no-heading at-heading) at-title.if-state-ne0-2.false
     at-stars.if-state-eq0.false
 
 pub is_open_spec : {M : Type 1} → statement M

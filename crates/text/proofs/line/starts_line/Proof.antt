@@ -10,7 +10,7 @@ returns : tie.Need-returns-then-at-eq0
 returns c = sym (line_starts-first _ _ c.if-at-eq0.true)
 
 returns-2 : tie.Need-returns
-returns-2 c = sym (line_starts-test _ _ c.before.if-at-eq0.false)
+returns-2 c = sym (line_starts-test _ _ c.if-at-eq0.false)
 
 pub starts_line_spec : {M : Type 1} → statement M
 starts_line_spec = tie.close (tie.spec returns (λ c. search rules) (λ c. search rules) returns-2)

@@ -21,15 +21,15 @@ returns c = sym (equal-lengths _ _ c.if-first-second.true)
 returns-2 : tie.Need-returns-then-first-i invariant-loop-i decreases-loop-i
 returns-2 c =
     let at_test = c.before.before.before in
-    sym (equal-differ _ _ _ at_test.loop-i-test.true (omega arith) c.if-first-i.true) ∙ at_test.before.loop-i.invariant.1
+    sym (equal-differ _ _ _ at_test.loop-i-test.true (omega arith) c.if-first-i.true) ∙ at_test.loop-i.invariant.1
 
 loop-again : tie.Need-loop-i-preserved invariant-loop-i decreases-loop-i
 loop-again c =
     let at_test = c.before.before.before in
-    (omega arith, sym (equal-step _ _ _ at_test.loop-i-test.true (omega arith) c.if-first-i.false) ∙ at_test.before.loop-i.invariant.1)
+    (omega arith, sym (equal-step _ _ _ at_test.loop-i-test.true (omega arith) c.if-first-i.false) ∙ at_test.loop-i.invariant.1)
 
 returns-3 : tie.Need-returns invariant-loop-i decreases-loop-i
-returns-3 c = sym (equal-end _ _ _ c.loop-i-test.false (omega arith)) ∙ c.before.loop-i.invariant.1
+returns-3 c = sym (equal-end _ _ _ c.loop-i-test.false (omega arith)) ∙ c.loop-i.invariant.1
 
 pub is_equal_spec : {M : Type 1} → statement M
 is_equal_spec =
