@@ -21,7 +21,7 @@ find-end-requires : tie.Need-find_end-search-requires
 find-end-requires c κs = let o = line_of-order _ _ _ c.requires.line in omega arith
 
 returns-3 : tie.Need-returns-in_default
-returns-3 c z = closer-nothing _ _ _ _ (sym c.enum_told-in_default-1.given.1 ∙ searched-closer _ _ _ _ _ c.find_end-search.ensures)
+returns-3 c z = closer-nothing _ _ _ _ (sym c.in_default.is ∙ searched-closer _ _ _ _ _ c.find_end-search.ensures)
 
 pub ends_after_spec : {M : Type 1} → statement M
 ends_after_spec =

@@ -4,7 +4,6 @@ use mathlib.Core.Path.{◌≡◌, sym, ◌∙◌}
 use mathlib.Core.Bool.{true}
 use native.Mathlib.Omega.{arith}
 use borrow.Author.Rules.{rules}
-use borrow.Author.Tests.{not-false}
 use Rattle.text.specs.Runs.{word, begins}
 use Rattle.text.specs.Parts.{part}
 use Rattle.rules.specs.Known.{Names}
@@ -25,7 +24,7 @@ begins-with-requires c κs = let o = line_of-order _ _ _ c.requires.line in (o.1
 begin : (c : tie.Else-not-begins_with) → let args = c.args in
     begins (part args.text.now args.line.from args.line.to) (word "#+begin_") ≡ true
 unfolding word
-begin c = sym c.begins_with.ensures ∙ not-false _ c.if-not-begins_with.false
+begin c = sym c.begins_with.ensures ∙ c.if-not-begins_with.false
 
 has-name-requires : tie.Need-has_name-requires
 has-name-requires c κs =
