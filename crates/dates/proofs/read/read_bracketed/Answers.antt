@@ -1,0 +1,13 @@
+-- `dates::read::read_bracketed` meets its contract: each half is read where the span found it.
+-- Assumes nothing.
+use Rattle.dates.proofs.read.read_bracketed.Goals as goal
+
+pub returns-in-One : goal.returns-in-One
+returns-in-One c =
+    let t = c.in-One.ensures.takes c.args.bracket in
+    record { is = rw (c.alone.ensures, c.half_at.ensures) t.is; from = t.from; to = t.to }
+
+pub returns-in-Two : goal.returns-in-Two
+returns-in-Two c =
+    let t = c.in-Two.ensures.takes c.args.bracket in
+    record { is = rw (c.both.ensures, c.half_at-in-Two.ensures, c.half_at-in-Two-2.ensures) t.is; from = t.from; to = t.to }
