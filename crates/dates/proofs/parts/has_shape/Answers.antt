@@ -15,17 +15,16 @@ pub returns-then-not-fits : goal.returns-then-not-fits
 returns-then-not-fits c =
     let a = c.args in
     let step =
-        shaped-cons a.text.now a.shape.now (a.from + c.loop-j.j) a.to c.loop-j.j
-            c.loop-j-test.true (omega arith) (omega arith) in
+    shaped-cons a.text.now a.shape.now (a.from + c.loop-j.j) a.to c.loop-j.j
+    c.loop-j-test.true (omega arith) (omega arith) in
     sym (step ∙ rw (sym c.if-not-fits.ensures)) ∙ c.loop-j.invariant.2
 
 pub loop-j-preserved : goal.loop-j-preserved
 loop-j-preserved c =
     let a = c.args in
     let step =
-        shaped-cons a.text.now a.shape.now (a.from + c.loop-j.j) a.to c.loop-j.j
-            c.loop-j-test.true (omega arith) (omega arith) in
-    (
+    shaped-cons a.text.now a.shape.now (a.from + c.loop-j.j) a.to c.loop-j.j
+    c.loop-j-test.true (omega arith) (omega arith) in (
       omega arith,
       omega arith,
       rw (← add_assoc _ _ 1) (sym (step ∙ rw (sym c.if-not-fits.ensures))) ∙ c.loop-j.invariant.2,

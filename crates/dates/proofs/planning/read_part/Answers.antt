@@ -25,9 +25,11 @@ returns-in_default-skip_timestamp c = (
 pub returns : goal.returns
 unfolding planning_part
 returns c =
-    let k = c.in-At.ensures in (
+    let k = c.in-At.ensures in
+    let g = c.in-At-skip_gap.ensures in
+    let s = c.in-At-skip_timestamp.ensures in (
       record {
-        is = rw (k.0.is, c.in-At-skip_gap.ensures.is, c.in-At-skip_timestamp.ensures.is);
+        is = rw (k.0.is, g.is, s.is);
         within = omega arith;
       },
       omega arith,
