@@ -1,8 +1,6 @@
 -- `dates::repeats::read_interval` meets its contract, by a law for each way out.
 -- Assumes nothing.
 use Rattle.std.proofs.Common.{sym, ◌∙◌, arith}
-use Rattle.text.specs.Bytes.{is_digit}
-use Rattle.text.proofs.Laws.Runs.{run-part-to}
 use Rattle.dates.proofs.Laws.Stamps.{interval-few, interval-many, interval-end, interval-unit}
 use Rattle.dates.proofs.repeats.read_interval.Goals as goal
 
