@@ -16,10 +16,10 @@ pub returns : goal.returns
 returns c =
     record {
       run = together-line _ _ _ c.requires.line (
-        elim c.match-find_rule.branch [
-          | in-Holds+else-e-le-TABLE w ↦ rule-alone _ _ _ _ _ w.in-Holds.ensures w.if-e-le-TABLE.false
-          | in_default w ↦ no-rule-alone _ _ _ _ w.in_default.ensures
-        ]
-      );
+          elim c.match-find_rule.branch [
+            | in-Holds+else-e-le-TABLE w ↦ rule-alone _ _ _ _ _ w.in-Holds.ensures w.if-e-le-TABLE.false
+            | in_default w ↦ no-rule-alone _ _ _ _ w.in_default.ensures
+          ]
+          );
       known = record { ends = c.ends_after.ensures; names = c.names_after.ensures };
     }
