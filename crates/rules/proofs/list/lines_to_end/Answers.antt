@@ -38,6 +38,7 @@ line_end-at-requires c =
     let within = run-part-to _ _ _ is_indent (let h = c.if-to-start.false in omega arith) c.requires.1 _ c.run_end-body.ensures in
     (within, c.requires.1)
 
+-- as the code finds it
 next : (s : List ℕ) (p e : ℕ) {q k b v : ℕ} → (q ≡ first_line s p e) × (k ≡ blanks (lines_in s p e)) → q < e → k ≤ 1
     → b ≡ q + length (run is_indent (part s q e)) → v ≡ width_of (part s q b) → IsNext s p e q b v k
 next s p e first some few body wide = next-is _ _ _ _ _ _ _ (next-line _ _ _ _ _ first.0 first.1 some few _ _ body wide)
