@@ -12,7 +12,6 @@ use native.Mathlib.Omega.{arith}
 use native.Mathlib.Nat.{add-zero, add_assoc}
 use lib.ListN.{length-append}
 use borrow.Author.Rules.{rules}
-use borrow.Author.Tests.{not-true, not-false}
 use Rattle.text.specs.Runs.{same}
 use Rattle.text.specs.Lines.{body}
 use Rattle.text.specs.Parts.{line_in}
@@ -56,13 +55,13 @@ other : (c : tie.Then-not-starts_with invariant-loop-j decreases-loop-j invarian
     let at-line = c.before.before.before in
     let args = at-line.args in
     starts_with (key_byte (args.first.now ++ args.second.now) 0) (line_in args.text.now at-line.lines.at args.to) ≡ false
-other c = sym (starts c.before) ∙ not-true _ c.if-not-starts_with.true
+other c = sym (starts c.before) ∙ c.if-not-starts_with.true
 
 marked : (c : tie.Else-not-starts_with invariant-loop-j decreases-loop-j invariant-lines decreases-lines) →
     let at-line = c.before.before.before in
     let args = at-line.args in
     starts_with (key_byte (args.first.now ++ args.second.now) 0) (line_in args.text.now at-line.lines.at args.to) ≡ true
-marked c = sym (starts c.before) ∙ not-false _ c.if-not-starts_with.false
+marked c = sym (starts c.before) ∙ c.if-not-starts_with.false
 
 -- ---- a line without it
 

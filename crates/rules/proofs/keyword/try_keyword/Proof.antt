@@ -3,7 +3,6 @@
 use mathlib.Core.Path.{sym, ◌∙◌}
 use native.Mathlib.Omega.{arith}
 use borrow.Author.Rules.{rules}
-use borrow.Author.Tests.{not-true, not-false}
 use Rattle.text.specs.Runs.{word}
 use Rattle.rules.proofs.Laws.LineOf.{line_of-order}
 use Rattle.rules.proofs.Laws.LineTests.{first_run-order}
@@ -16,7 +15,7 @@ begins-with-requires c κs = let o = line_of-order _ _ _ c.requires.line in omeg
 
 returns : tie.Need-returns-then-not-begins_with
 unfolding word
-returns c = keyword-other _ _ _ c.requires.line (sym c.begins_with.ensures ∙ not-true _ c.if-not-begins_with.true)
+returns c = keyword-other _ _ _ c.requires.line (sym c.begins_with.ensures ∙ c.if-not-begins_with.true)
 
 word-end-requires : tie.Need-word_end-run-requires
 word-end-requires c κs = let o = line_of-order _ _ _ c.requires.line in omega arith
@@ -48,7 +47,7 @@ returns-3 c =
     let at-run = at-marker.before in
     let at_test = at-run.before in
     keyword-yes _ _ _ at_test.requires.line _ at-run.word_end-run.ensures
-    _ at-marker.after_last_colon-marker.ensures (sym at_test.begins_with.ensures ∙ not-false _ at_test.if-not-begins_with.false)
+    _ at-marker.after_last_colon-marker.ensures (sym at_test.begins_with.ensures ∙ at_test.if-not-begins_with.false)
     (omega arith) _ c.run_end.ensures
 
 pub try_keyword_spec : {M : Type 1} → statement M

@@ -6,7 +6,6 @@ use Prim.Native.Nat.{◌+◌, ◌≤◌}
 use native.Mathlib.Omega.{arith}
 use lib.ListN.{length}
 use borrow.Author.Rules.{rules}
-use borrow.Author.Tests.{not-true, not-false}
 use Rattle.text.specs.Runs.{word, begins}
 use Rattle.text.specs.Parts.{part, line_in}
 use Rattle.text.proofs.Laws.Parts.{part_slice}
@@ -39,7 +38,7 @@ unfolding word
 returns-2 c =
     let at-begin = c.before.before in
     let at_other = at-begin.before.before in
-    let no = sym at-begin.begins_with.ensures ∙ not-true _ c.if-not-begins_with.true in
+    let no = sym at-begin.begins_with.ensures ∙ c.if-not-begins_with.true in
     c.no_search.ensures ∙ opener-none _ _ _ (other at_other) (unnamed-no _ _ _ at_other.requires no)
 
 -- ---- the body begins with `#+begin_`
@@ -47,7 +46,7 @@ returns-2 c =
 begin : (c : tie.Else-not-begins_with) → let args = c.args in
     begins (part args.text.now args.line.from args.line.to) (word "#+begin_") ≡ true
 unfolding word
-begin c = sym c.begins_with.ensures ∙ not-false _ c.if-not-begins_with.false
+begin c = sym c.begins_with.ensures ∙ c.if-not-begins_with.false
 
 name : (c : tie.Else-not-begins_with) → let args = c.args in
     (args.line.from + 8 ≤ args.line.to) × (args.line.to ≤ length args.text.now)

@@ -5,7 +5,6 @@ use mathlib.Core.Bool.{true}
 use mathlib.Core.List.{[], ◌∷◌}
 use types.Run.{miss}
 use borrow.Author.Rules.{rules}
-use borrow.Author.Tests.{not-true, not-false}
 use Rattle.rules.specs.declared.place.Place.{Place}
 use Rattle.rules.specs.declared.place.Place.TheVariants.{AfterHeading, AfterPlanning, Opening, AfterComment, Elsewhere, InLine}
 use Rattle.rules.specs.Places.{after_blank}
@@ -13,12 +12,12 @@ use Rattle.rules.proofs.place.first_place.Statement.{statement}
 use Rattle.rules.proofs.place.first_place.Tie as tie
 
 returns : tie.Need-returns-then-not-blank
-returns c = rw (not-true c.args.blank c.if-not-blank.true)
+returns c = rw c.if-not-blank.true
 
 -- ---- after blank lines
 
 blank : (c : tie.Else-not-blank) → c.args.blank ≡ true
-blank c = not-false c.args.blank c.if-not-blank.false
+blank c = c.if-not-blank.false
 
 returns-2 : tie.Need-returns-in-Opening
 returns-2 c = rw (blank c.before.before, c.enum_told-1.given.1)

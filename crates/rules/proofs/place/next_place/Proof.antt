@@ -6,7 +6,7 @@ use mathlib.Core.List.{List, [], ◌∷◌}
 use Prim.Native.Nat.{ℕ}
 use types.Run.{miss}
 use borrow.Author.Rules.{rules}
-use borrow.Author.Tests.{eq-eqb, ne_eqb, not-true, not-false}
+use borrow.Author.Tests.{eq-eqb, ne_eqb}
 use Rattle.rules.specs.Kind
 use Rattle.rules.specs.declared.place.Place.{Place}
 use Rattle.rules.specs.declared.place.Place.TheVariants.{AfterHeading, AfterPlanning, Opening, AfterComment, Elsewhere, InLine}
@@ -16,12 +16,12 @@ use Rattle.rules.proofs.place.next_place.Tie as tie
 
 returns : tie.Need-returns-then-not-tight
 unfolding next_place
-returns c = rw (not-true c.args.tight c.if-not-tight.true)
+returns c = rw c.if-not-tight.true
 
 -- ---- with no blank line after it
 
 tight : (c : tie.Else-not-tight) → c.args.tight ≡ true
-tight c = not-false c.args.tight c.if-not-tight.false
+tight c = c.if-not-tight.false
 
 returns-2 : tie.Need-returns-then-kind-eq-PLANNING
 unfolding next_place

@@ -5,7 +5,6 @@ use mathlib.Core.Bool.{◌&&◌}
 use mathlib.Core.List.{[], ◌∷◌}
 use types.Run.{miss}
 use borrow.Author.Rules.{rules}
-use borrow.Author.Tests.{not-true, not-false}
 use Rattle.text.specs.Parts.{line_in}
 use Rattle.rules.specs.LineTests.{is_planning}
 use Rattle.rules.specs.Places.{allows_planning}
@@ -27,10 +26,10 @@ unfolding allows_planning
 line c = rw c.enum_told-1.given.1 (sym c.is_planning.ensures)
 
 returns-2 : tie.Need-returns-then-not-is_planning
-returns-2 c = planning-no _ _ _ c.requires.line _ (line c.before ∙ not-true _ c.if-not-is_planning.true)
+returns-2 c = planning-no _ _ _ c.requires.line _ (line c.before ∙ c.if-not-is_planning.true)
 
 returns-3 : tie.Need-returns
-returns-3 c = planning-yes _ _ _ c.requires.line _ (line c.before ∙ not-false _ c.if-not-is_planning.false)
+returns-3 c = planning-yes _ _ _ c.requires.line _ (line c.before ∙ c.if-not-is_planning.false)
 
 pub try_planning_spec : {M : Type 1} → statement M
 try_planning_spec = tie.close (tie.spec (λ c. search rules) returns (λ c κs. search rules) returns-2 returns-3)

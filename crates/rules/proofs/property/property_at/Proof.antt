@@ -5,7 +5,7 @@ use mathlib.Core.Bool.{true, not}
 use mathlib.Core.Logic.{⊎_elim}
 use Prim.Native.Nat.{◌+◌, ◌≤◌, ◌-◌}
 use native.Mathlib.Omega.{arith}
-use borrow.Author.Tests.{eqb-true, eqb-false, not-true, not-false}
+use borrow.Author.Tests.{eqb-true, eqb-false}
 use lib.ListN.{length}
 use Rattle.text.specs.Runs.{is_empty}
 use Rattle.text.specs.Parts.{part, line_in}
@@ -29,13 +29,13 @@ returns c =
     let at-run = c.before.before in
     sym (property_of-no _ _
     (is_node_property-none _ _ _ at-run.requires _ at-run.word_end-end.ensures
-    (sym c.is_between_colons.ensures ∙ not-true _ c.if-not-is_between_colons.true)))
+    (sym c.is_between_colons.ensures ∙ c.if-not-is_between_colons.true)))
 
 -- the colons stand
 colons : (c : tie.Else-not-is_between_colons) → let at-run = c.before.before in
     let start = at-run.before.before in
     not (is_empty (between_colons (part start.args.text.now start.args.line.from at-run.word_end-end.result))) ≡ true
-colons c = sym c.is_between_colons.ensures ∙ not-false _ c.if-not-is_between_colons.false
+colons c = sym c.is_between_colons.ensures ∙ c.if-not-is_between_colons.false
 
 order : (c : tie.Else-not-is_between_colons) → let at-run = c.before.before in
     let start = at-run.before.before in
