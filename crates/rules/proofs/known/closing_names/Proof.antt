@@ -14,10 +14,10 @@ use Rattle.rules.proofs.known.closing_names.Statement.{statement}
 use Rattle.rules.proofs.known.closing_names.Tie as tie
 
 abbrev invariant-loop-at : tie.invariant-loop-at
-invariant-loop-at text from to at₀ names₀ t at names = (at ≤ to) × (to ≤ length text) × NamesTo text from at to names
+invariant-loop-at text from to at₀ names₀ at names = (at ≤ to) × (to ≤ length text) × NamesTo text from at to names
 
 abbrev decreases-loop-at : tie.decreases-loop-at
-decreases-loop-at text from to at₀ names₀ t at names = to - at
+decreases-loop-at text from to at₀ names₀ at names = to - at
 
 -- the next line starts further on, and not past the end
 next : (c : tie.After-line_at-line invariant-loop-at decreases-loop-at) → let at-loop = c.before.before in
@@ -52,7 +52,7 @@ loop-again c =
     let at_name = c.before in
     let at-if = at_name.before.before in
     let at-begins = at-if.before in
-    let at-line = at-begins.before.before in
+    let at-line = at-begins.before.before.before in
     let at_test = at-line.before in
     let inv = at_test.loop-at.invariant in (
       (next at-line).1,
@@ -65,7 +65,7 @@ loop-again-2 : tie.Need-loop-at-preserved invariant-loop-at decreases-loop-at
 unfolding word
 loop-again-2 c =
     let at-begins = c.before in
-    let at-line = at-begins.before.before in
+    let at-line = at-begins.before.before.before in
     let at_test = at-line.before in
     let inv = at_test.loop-at.invariant in (
       (next at-line).1,

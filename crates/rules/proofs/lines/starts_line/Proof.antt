@@ -23,26 +23,26 @@ returns : tie.Need-returns-then-at-to
 returns c p h =
     let at_test = c.before in
     let at-arm = at_test.before in
-    rw at-arm.enum_told-1.given.1 (sym (is_row-byte _ p _ _ h at-arm.requires.1 at_test.if-at-to.true))
+    rw c.in-Row.is (sym (is_row-byte _ p _ _ h at-arm.requires.1 at_test.if-at-to.true))
 
 returns-2 : tie.Need-returns-else-at-to
 returns-2 c p h =
     let at-arm = c.before in
-    rw at-arm.enum_told-1.given.1 (le-ltb _ _ c.if-at-to.false ∙ sym (is_row-none _ p _ _ h at-arm.requires.1 c.if-at-to.false))
+    rw c.in-Row.is (le-ltb _ _ c.if-at-to.false ∙ sym (is_row-none _ p _ _ h at-arm.requires.1 c.if-at-to.false))
 
 returns-3 : tie.Need-returns-in-Formula
 unfolding is_formula word all is_non_blank
 returns-3 c p h =
     let at-arm = c.before.before in
-    rw at-arm.enum_told-in-Formula-1.given.1 (c.begins_with.ensures ∙ sym (begins-after _ p _ _ h at-arm.requires.1 _ refl))
+    rw at-arm.in-Formula.is (c.begins_with.ensures ∙ sym (begins-after _ p _ _ h at-arm.requires.1 _ refl))
 
 returns-4 : tie.Need-returns-in-Comment
 unfolding is_comment
-returns-4 c p h = rw c.enum_told-in-Comment-1.given.1 (c.is_marked.ensures ∙ ap (is_marked 35) (after-body _ p _ _ h))
+returns-4 c p h = rw c.in-Comment.is (c.is_marked.ensures ∙ ap (is_marked 35) (after-body _ p _ _ h))
 
 returns-5 : tie.Need-returns-in-FixedWidth
 unfolding is_fixed_width
-returns-5 c p h = rw c.enum_told-in-FixedWidth-1.given.1 (c.is_marked-in-FixedWidth.ensures ∙ ap (is_marked 58) (after-body _ p _ _ h))
+returns-5 c p h = rw c.in-FixedWidth.is (c.is_marked-in-FixedWidth.ensures ∙ ap (is_marked 58) (after-body _ p _ _ h))
 
 pub starts_line_spec : {M : Type 1} → statement M
 starts_line_spec =

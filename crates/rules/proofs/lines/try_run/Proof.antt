@@ -21,7 +21,7 @@ returns c =
 lines-end-requires : tie.Need-lines_end-run-requires
 lines-end-requires c κs = let o = line_of-order _ _ _ c.requires.0.line in omega arith
 
-add : tie.Need-overflow-add-t9
+add : tie.Need-overflow_add-result
 add c =
     let at-run = c.before in
     let start = at-run.before.before.before.before in

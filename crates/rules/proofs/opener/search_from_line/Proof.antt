@@ -37,7 +37,7 @@ returns-2 : tie.Need-returns-then-not-begins_with
 unfolding word
 returns-2 c =
     let at-begin = c.before.before in
-    let at_other = at-begin.before.before in
+    let at_other = at-begin.before.before.before in
     let no = sym at-begin.begins_with.ensures ∙ c.if-not-begins_with.true in
     c.no_search.ensures ∙ opener-none _ _ _ (other at_other) (unnamed-no _ _ _ at_other.requires no)
 
@@ -56,7 +56,7 @@ returns-3 : tie.Need-returns-then-end-name
 returns-3 c =
     let at_name = c.before.before in
     let at-begin = at_name.before.before in
-    let at_other = at-begin.before.before.before in
+    let at_other = at-begin.before.before.before.before in
     let pre = at_other.requires in
     let no = unnamed-empty _ _ _ pre (begin at-begin) _ at_name.word_end-end.ensures c.if-end-name.true in
     c.no_search-then-end-name.ensures ∙ opener-none _ _ _ (other at_other) no
@@ -71,7 +71,7 @@ ends c =
 find-closer-requires : tie.Need-find_closer-requires
 unfolding word
 find-closer-requires c κs =
-    let at_name = c.before.before.before in
+    let at_name = c.before.before.before.before in
     let at-begin = at_name.before.before in
     let pre = at-begin.requires in
     let o = line_of-order _ _ _ pre in
@@ -80,10 +80,10 @@ find-closer-requires c κs =
 returns-4 : tie.Need-returns
 unfolding word
 returns-4 c =
-    let at_test = c.before.before.before in
+    let at_test = c.before.before.before.before in
     let at_name = at_test.before in
     let at-begin = at_name.before.before in
-    let at_other = at-begin.before.before.before in
+    let at_other = at-begin.before.before.before.before in
     let start = at_other.before.before.before in
     let part-is = block_name-part _ _ _ start.requires (begin at-begin) _ at_name.word_end-end.ensures in
     let some = block-name _ _ _ start.requires (begin at-begin) _ at_name.word_end-end.ensures at_test.if-end-name.false in
