@@ -71,7 +71,7 @@ differs : (c : Joined-size-j) →
 differs c =
     let inv = c.loop-j.invariant in
     elim c.if-size-j.branch [
-      then-size-j+else-trim_end-body w ↦
+      | then-size-j+else-trim_end-body w ↦
           matched-no _ _ _ _ _ _ inv (rw length-append w.if-size-j.true) _ _ w.line_end-end.ensures w.trim_end.ensures w.if-trim_end-body.false
       | else-size-j+then-to-body w ↦ matched-short _ _ _ _ _ _ inv (rw length-append w.if-size-j.false) (omega (arith, w.if-to-body.true))
       | else-size-j+else-to-body+then-lower-key_byte w ↦
@@ -121,7 +121,7 @@ returns-then-trim_end-body c =
     let inv = c.loop-j.invariant in
     let marked = sym (starts (goal.at.returns-then-trim_end-body c).After-starts_with) ∙ c.if-not-starts_with.false in
     let yes =
-        matched-yes _ _ _ _ _ _ inv (rw length-append c.if-size-j.true) _ _ c.line_end-end.ensures c.trim_end.ensures c.if-trim_end-body.true in
+    matched-yes _ _ _ _ _ _ inv (rw length-append c.if-size-j.true) _ _ c.line_end-end.ensures c.trim_end.ensures c.if-trim_end-body.true in
     searched-is _ _ _ _ _ _
     (rw (c.line_end-end.ensures ∙ inv.ends)
     (further-here _ _ _ ∙ ap (further _) (sym (closer-here _ _ _ _ c.if-to-at.false c.requires.1 yes))) ∙ c.lines.invariant.2)

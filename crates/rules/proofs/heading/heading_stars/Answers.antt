@@ -11,6 +11,6 @@ returns-then-text-end-eq32 c = sym (heading_stars-here _ _ _ _ c.run_end-end.ens
 pub returns-else-end-to : goal.returns-else-end-to
 returns-else-end-to c =
     elim c.else-end-to.branch [
-      else-end-to-via-then-end-to+else-text-end-eq32 w ↦ sym (heading_stars-other _ _ _ _ c.run_end-end.ensures w.if-end-to.true w.if-text-end-eq32.false)
+      | else-end-to-via-then-end-to+else-text-end-eq32 w ↦ sym (heading_stars-other _ _ _ _ c.run_end-end.ensures w.if-end-to.true w.if-text-end-eq32.false)
       | else-end-to-via-else-end-to w ↦ sym (heading_stars-end _ _ _ _ c.run_end-end.ensures c.requires.1 w.if-end-to.false)
     ]

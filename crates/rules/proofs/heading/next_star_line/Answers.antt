@@ -27,7 +27,7 @@ loop-i-preserved c =
       omega arith,
       no_star_line-append s _ i _ c.loop-i.invariant.2 (no_star_line-block s i 64
           (elim c.if-has_byte.branch [
-            then-has_byte+else-k-lt64 w ↦ λ k l. w.star_line_in-k.ensures.1 k l (omega arith)
+            | then-has_byte+else-k-lt64 w ↦ λ k l. w.star_line_in-k.ensures.1 k l (omega arith)
             | else-has_byte w ↦ λ k l star. c.has_byte.ensures w.if-has_byte.false k l star.0
           ])),
     )

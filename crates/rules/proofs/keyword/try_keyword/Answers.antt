@@ -2,7 +2,6 @@
 -- Assumes nothing.
 use mathlib.Core.Path.{sym, ◌∙◌}
 use native.Mathlib.Omega.{arith}
-use borrow.Author.Rules.{rules}
 use Rattle.text.specs.Runs.{word}
 use Rattle.rules.proofs.Laws.LineOf.{line_of-order}
 use Rattle.rules.proofs.Laws.LineTests.{first_run-order}

@@ -1,7 +1,6 @@
 -- `rules::lines::starts_line` meets its contract: each arm asks of the text what the class's test asks of a body that starts there.
 -- Assumes nothing.
 use mathlib.Core.Path.{refl, sym, ap, ◌∙◌}
-use borrow.Author.Rules.{rules}
 use borrow.Author.Tests.{le-ltb}
 use Rattle.text.specs.Bytes.{is_non_blank}
 use Rattle.text.specs.Runs.{word, all}

@@ -60,7 +60,7 @@ named c =
     let pre = c.requires in
     let colons = sym c.is_between_colons.ensures ∙ c.if-not-is_between_colons.false in
     elim c.if-text-name-eq43.branch [
-      then-text-name-eq43 w ↦ rw w.name-is (property_name-plus _ _ _ pre _ c.word_end-end.ensures colons w.if-text-name-eq43.true)
+      | then-text-name-eq43 w ↦ rw w.name-is (property_name-plus _ _ _ pre _ c.word_end-end.ensures colons w.if-text-name-eq43.true)
       | else-text-name-eq43 w ↦ rw w.name-is (property_name-whole _ _ _ pre _ c.word_end-end.ensures colons w.if-text-name-eq43.false)
     ]
 
@@ -78,7 +78,7 @@ returns-then-name-from c =
     let n = named (goal.at.returns-then-name-from c).Joined-text-name-eq43 in
     let o = within (goal.at.returns-then-name-from c).Joined-text-name-eq43 in
     sym (property_of-no _ _ (elim c.then-name-from.branch [
-      then-name-from-via-then-name-from w ↦ is_node_property-empty _ _ _ _ n w.if-name-from.true
+      | then-name-from-via-then-name-from w ↦ is_node_property-empty _ _ _ _ n w.if-name-from.true
       | then-name-from-via-else-name-from+then-text-name-eq43-2 w ↦ is_node_property-plus _ _ _ _ n w.if-name-from.false (omega arith) w.if-text-name-eq43-2.true
     ]))
 
