@@ -1,6 +1,6 @@
 -- `rules::drawer::is_drawer_line` meets its contract: the name stands between the colons of the body.
 -- Assumes nothing.
-use Rattle.std.proofs.Common.{ℕ, ◌+◌, ◌≤◌, length, sym, arith}
+use Rattle.std.proofs.Common.{◌+◌, ◌≤◌, length, sym, arith}
 use Rattle.text.specs.Runs.{word}
 use Rattle.rules.proofs.Laws.LineOf.{line_of-order}
 use Rattle.rules.proofs.Laws.Names.{between_colons-some}

@@ -11,7 +11,7 @@ use Rattle.rules.specs.Elements.{rule, table, horizontal_rule, first_of, rules3t
 use Rattle.rules.specs.Findings.{LineOf, rule_at, rule_on, is_in, wanting}
 use Rattle.rules.specs.declared.rule.Rule.TheVariants.{Fails}
 use Rattle.rules.proofs.Laws.LineOf.{line_of-order}
-use Rattle.rules.proofs.Laws.FirstByte.{mark-other, letter-other, first_at, first-none, first_some, planning-upper, planning-small, planning-s}
+use Rattle.rules.proofs.Laws.FirstByte.{mark-other, letter-other, first-none, first_some, planning-upper, planning-small, planning-s}
 use Rattle.rules.proofs.Laws.FirstOf.{first_of-byte, first_of-none, first_of-only, first_of-letter}
 use Rattle.rules.proofs.first_rule.find_rule.Goals as goal
 use Rattle.rules.proofs.first_rule.find_rule.Goals.{in-83-1, in_default+else-first-lt67+then-first-lt69, in_default+else-first-lt67+else-first-lt69+else-first-lt99+then-first-lt101}
