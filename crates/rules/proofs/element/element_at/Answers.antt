@@ -36,8 +36,8 @@ unfolding line_in
 rest c =
     let allows = sym c.allows_rules.ensures in
     elim c.if-allows_rules.branch [
-        then-allows_rules+in_default+else-is_item w ↦
-        element-fails _ _ _ (allows ∙ w.if-allows_rules.true) w.in_default.ensures (sym w.is_item.ensures ∙ w.if-is_item.false)
+      | then-allows_rules+in_default+else-is_item w ↦
+          element-fails _ _ _ (allows ∙ w.if-allows_rules.true) w.in_default.ensures (sym w.is_item.ensures ∙ w.if-is_item.false)
       | else-allows_rules w ↦ element-rest _ _ (allows ∙ w.if-allows_rules.false)
     ]
 

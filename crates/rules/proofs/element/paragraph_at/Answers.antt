@@ -21,7 +21,7 @@ ends : (c : Joined-first-eq58) → let args = c.args in
 ends c z =
     let pre = c.requires in
     elim c.if-first-eq58.branch [
-        then-first-eq58 w ↦ w.ends_after-ends.ensures (sym w.ends-is ∙ z)
+      | then-first-eq58 w ↦ w.ends_after-ends.ensures (sym w.ends-is ∙ z)
       | else-first-eq58 w ↦ (knows-next _ _ _ _ _ pre.line pre.known).ends (sym w.ends-is ∙ z)
     ]
 
@@ -30,7 +30,7 @@ names : (c : Joined-first-eq35) → let args = c.args in
 names c x z =
     let pre = c.requires in
     elim c.if-first-eq35.branch [
-        then-first-eq35 w ↦ w.names_after-names.ensures x (sym (ap (λ m. has_name m x) w.names-is) ∙ z)
+      | then-first-eq35 w ↦ w.names_after-names.ensures x (sym (ap (λ m. has_name m x) w.names-is) ∙ z)
       | else-first-eq35 w ↦ (knows-next _ _ _ _ _ pre.line pre.known).names x (sym (ap (λ m. has_name m x) w.names-is) ∙ z)
     ]
 

@@ -94,7 +94,7 @@ ends : (c : Joined-first-eq58) → LineOf c.args.text.now c.line_at-line.result 
     c.if-first-eq58.ends ≡ false → NoLine (word ":end:") c.args.text.now c.line_at-line.result.end c.args.scope.end
 ends c l k z =
     elim c.if-first-eq58.branch [
-        then-first-eq58 w ↦ w.ends_after-ends.ensures (sym w.ends-is ∙ z)
+      | then-first-eq58 w ↦ w.ends_after-ends.ensures (sym w.ends-is ∙ z)
       | else-first-eq58 w ↦ (knows-next _ _ _ _ _ l k).ends (sym w.ends-is ∙ z)
     ]
 
@@ -103,7 +103,7 @@ names : (c : Joined-first-eq35) → LineOf c.args.text.now c.line_at-line.result
     Names c.args.text.now c.line_at-line.result.end c.args.scope.end c.if-first-eq35.names
 names c l k x z =
     elim c.if-first-eq35.branch [
-        then-first-eq35 w ↦ w.names_after-names.ensures x (sym (ap (λ m. has_name m x) w.names-is) ∙ z)
+      | then-first-eq35 w ↦ w.names_after-names.ensures x (sym (ap (λ m. has_name m x) w.names-is) ∙ z)
       | else-first-eq35 w ↦ (knows-next _ _ _ _ _ l k).names x (sym (ap (λ m. has_name m x) w.names-is) ∙ z)
     ]
 

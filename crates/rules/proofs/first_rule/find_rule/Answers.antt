@@ -66,7 +66,15 @@ unwanted b o pl =
       letter-other b 67 c c',
       letter-other b 68 d d',
       letter-other b 83 (λ e. s (inl e)) (λ e. s (inr e)),
-      c58, c35, c58, mark-other b 124 refl bar, c35, c58, mark-other b 45 refl hyphen, c35, wanting,
+      c58,
+      c35,
+      c58,
+      mark-other b 124 refl bar,
+      c35,
+      c58,
+      mark-other b 45 refl hyphen,
+      c35,
+      wanting,
     )
 
 none : (s : List ℕ) (l : LineSpan) (sc : Scope) → LineOf s l sc.end → l.from < l.to → Other (get_or s l.from 0) → Fails ≡ rule_on (first_of (rules1to9 sc.place)) s l sc
@@ -87,8 +95,8 @@ pub returns-in-67-to-68 : goal.returns-in-67-to-68
 returns-in-67-to-68 c =
     let b = get_or c.args.text.now c.args.line.from 0 in
     let n : is_in (lower b) (word "cds") ≡ true = elim c.in-67-to-68-1.branch [
-      in-83-1 w ↦ planning-s b (search rules)
-    | in_default+else-first-lt67+then-first-lt69 w ↦ planning-upper b (omega arith) (omega arith)
-    | in_default+else-first-lt67+else-first-lt69+else-first-lt99+then-first-lt101 w ↦ planning-small b (omega arith) (omega arith)
+      | in-83-1 w ↦ planning-s b (search rules)
+      | in_default+else-first-lt67+then-first-lt69 w ↦ planning-upper b (omega arith) (omega arith)
+      | in_default+else-first-lt67+else-first-lt69+else-first-lt99+then-first-lt101 w ↦ planning-small b (omega arith) (omega arith)
     ] in
     rw (first_of-letter _ _ (ap (λ (a : ℕ). is_in a (word "cds")) (first_some _ _ _ c.requires.line c.if-line-from.false) ∙ n)) c.try_planning.ensures
