@@ -1,5 +1,6 @@
 -- The invariant of `rules::element::paragraph_lines`: the further lines from `at` on, counted on from n, are those asked for, and what is known is
 -- true of the lines from `at` on. The measure is the bytes from `at` on.
+-- Assumes nothing.
 use Rattle.std.proofs.Common.{◌≡◌, ◌-◌, ◌≤◌}
 use Rattle.rules.specs.Known.{Knows}
 use Rattle.rules.specs.Findings.{paragraph_run}

@@ -14,7 +14,6 @@ use Rattle.rules.proofs.Laws.LineOf.{line_of-order}
 use Rattle.rules.proofs.Laws.FirstByte.{mark-other, letter-other, first-none, first_some, planning-upper, planning-small, planning-s}
 use Rattle.rules.proofs.Laws.FirstOf.{first_of-byte, first_of-none, first_of-only, first_of-letter}
 use Rattle.rules.proofs.first_rule.find_rule.Goals as goal
-use Rattle.rules.proofs.first_rule.find_rule.Goals.{in-83-1, in_default+else-first-lt67+then-first-lt69, in_default+else-first-lt67+else-first-lt69+else-first-lt99+then-first-lt101}
 
 pub returns-then-line-from : goal.returns-then-line-from
 unfolding rule_at wanting is_in rules1to9 rules3to9 word
@@ -94,9 +93,5 @@ returns-in_default-3 c = none _ c.args.line c.args.scope c.requires.line c.if-li
 pub returns-in-67-to-68 : goal.returns-in-67-to-68
 returns-in-67-to-68 c =
     let b = get_or c.args.text.now c.args.line.from 0 in
-    let n : is_in (lower b) (word "cds") ≡ true = elim c.in-67-to-68-1.branch [
-      | in-83-1 w ↦ planning-s b (search rules)
-      | in_default+else-first-lt67+then-first-lt69 w ↦ planning-upper b (omega arith) (omega arith)
-      | in_default+else-first-lt67+else-first-lt69+else-first-lt99+then-first-lt101 w ↦ planning-small b (omega arith) (omega arith)
-    ] in
+    let n : is_in (lower b) (word "cds") ≡ true = grind (arith, planning-s b, planning-upper b, planning-small b) in
     rw (first_of-letter _ _ (ap (λ (a : ℕ). is_in a (word "cds")) (first_some _ _ _ c.requires.line c.if-line-from.false) ∙ n)) c.try_planning.ensures
