@@ -1,9 +1,10 @@
 -- `sheet::sheet::put_pair` meets its contract: the key between its colons, the value, byte 10.
-use mathlib.Core.List.{List}
-use Prim.Native.Nat.{ℕ, ◌+◌, ◌≤◌}
+use mathlib.Core.List.{List, [], ◌∷◌, ◌++◌}
+use Prim.Native.Nat.{ℕ, ◌+◌, ◌-◌, ◌≤◌}
 use native.Mathlib.Omega.{arith}
-use lib.ListN.{length}
+use lib.ListN.{length, take, drop}
 use Rattle.text.specs.Runs.{word}
+use Rattle.text.specs.Parts.{part}
 use Rattle.text.proofs.Laws.Parts.{part_slice}
 use Rattle.sheet.specs.Order.{Pair}
 use Rattle.sheet.specs.Sheet.{marked_key, spaced, pair_line}
@@ -17,6 +18,12 @@ use Rattle.sheet.proofs.sheet.put_pair.Goals as goal
 room : (p : Pair) (at n : ℕ) → at + length (pair_line p) ≤ n → at + length (marked_key p.key) + length (spaced p.value) + 1 ≤ n
 room p at n h = omega (arith, marked_key-length p.key, pair_line-length p)
 
+-- the key is laid
+key : {d d' : List ℕ} {a n : ℕ} (x : List ℕ) (p e : ℕ) → p ≤ e → Puts d a ((58 ∷ []) ++ (take (e - p) (drop p x) ++ (58 ∷ []))) d' n →
+    Puts d a (marked_key (part x p e)) d' n
+unfolding marked_key word
+key x p e h k = rw (part_slice x p e h) at k
+
 pub put_between-end-requires : goal.put_between-end-requires
 unfolding marked_key word
 put_between-end-requires c =
@@ -24,31 +31,25 @@ put_between-end-requires c =
     rw (part_slice a.buffer.now a.pair.from a.pair.to c.requires.0.key)
     (omega (arith, room (pair_of a.buffer.now a.pair) a.at (length a.out.now) c.requires.1))
 
--- the key is laid
-key : (c : goal.After-put_between-end) →
-    let a = c.args in
-    Puts a.out.now a.at (marked_key (pair_of a.buffer.now a.pair).key) c.put_between-end.new.out c.put_between-end.result
-unfolding marked_key word
-key c = rw (part_slice _ _ _ c.requires.0.key) at c.put_between-end.ensures
-
 pub put_value-end-requires : goal.put_value-end-requires
 put_value-end-requires c =
-    let a = c.args in (
+    let a = c.args in
+    let k = key _ _ _ c.requires.0.key c.put_between-end.ensures in (
       c.requires.0.value,
       c.requires.0.inside,
-      omega (arith, room (pair_of a.buffer.now a.pair) a.at (length a.out.now) c.requires.1, (key c.before).next),
+      omega (arith, room (pair_of a.buffer.now a.pair) a.at (length a.out.now) c.requires.1, k.next),
     )
 
 pub put-requires : goal.put-requires
 put-requires c =
     let a = c.args in
-    omega (arith, room (pair_of a.buffer.now a.pair) a.at (length a.out.now) c.requires.1, (key c.before).next, c.put_value-end.ensures.next)
+    let k = key _ _ _ c.requires.0.key c.put_between-end.ensures in
+    omega (arith, room (pair_of a.buffer.now a.pair) a.at (length a.out.now) c.requires.1, k.next, c.put_value-end.ensures.next)
 
 pub returns : goal.returns
 unfolding pair_line word
 returns c =
     let a = c.args in
     let r = room (pair_of a.buffer.now a.pair) a.at (length a.out.now) c.requires.1 in
-    puts-append (key c.before)
-    (puts-append c.put_value-end.ensures c.put.ensures (omega (arith, r, (key c.before).next)))
-    (omega (arith, r))
+    let k = key _ _ _ c.requires.0.key c.put_between-end.ensures in
+    puts-append k (puts-append c.put_value-end.ensures c.put.ensures (omega (arith, r, k.next))) (omega (arith, r))
