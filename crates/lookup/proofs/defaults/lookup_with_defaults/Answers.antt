@@ -60,5 +60,5 @@ returns-then-is_reserved c =
 pub returns : goal.returns
 returns c =
     let e = turned _ _ c.args.defaults.now _ _ c.lookup-answer.ensures.value c.in-NoKey.is (sym c.is_reserved.ensures ∙ c.if-is_reserved.false)
-        ∙ ap Defaults (sym c.of_defaults.ensures) in
+    ∙ ap Defaults (sym c.of_defaults.ensures) in
     record { value = sym e; sourced_from = sourced-answer _ _ _ _ _ e }

@@ -1,7 +1,6 @@
 -- `lookup::drawer::find_drawer` meets its contract: no line has more stars than the text has bytes, so the section ends at the next heading line.
 -- Assumes nothing.
 use mathlib.Core.Path.{sym, ◌∙◌}
-use native.Mathlib.Omega.{arith}
 use Rattle.rules.proofs.Laws.LineOf.{line_of, line_span-next}
 use Rattle.lookup.proofs.Laws.DrawersFound.{section-order, drawer_after-end, drawer_after-planning, drawer_after-heading}
 use Rattle.lookup.proofs.drawer.find_drawer.Goals as goal

@@ -37,7 +37,6 @@ returns-then-is_bad_key c =
     let e = lookup-bad c.args.text.now c.args.at c.args.key.now c.if-text-gt-TEXT.false (sym c.is_bad_key.ensures ∙ c.if-is_bad_key.true) in
     record { value = sym e; tied = tied-answer _ _ _ _ e }
 
-
 pub returns-in_default : goal.returns-in_default
 returns-in_default c =
     let t : Tried c.args.text.now c.args.key.now = record { text = c.if-text-gt-TEXT.false; key = sym c.is_bad_key.ensures ∙ c.if-is_bad_key.false } in
@@ -52,7 +51,7 @@ returns-in_default-drawer c =
     let t : Tried c.args.text.now c.args.key.now = record { text = c.if-text-gt-TEXT.false; key = sym c.is_bad_key.ensures ∙ c.if-is_bad_key.false } in
     let d = c.find_drawer-drawer in
     let e = lookup-drawer _ _ _ t _ (sym c.in-Before.ensures) d.result (sym d.ensures)
-        ∙ refused d.result _ _ c.in_default-drawer.not-Lines ∙ sym c.no_drawer.ensures in
+    ∙ refused d.result _ _ c.in_default-drawer.not-Lines ∙ sym c.no_drawer.ensures in
     record { value = sym e; tied = tied-answer _ _ _ _ e }
 
 pub find_value-requires : goal.find_value-requires

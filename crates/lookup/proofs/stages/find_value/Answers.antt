@@ -1,6 +1,6 @@
 -- `lookup::stages::find_value` meets its contract: a line with the key has the value, and any other line passes the search on.
 -- Assumes nothing.
-use mathlib.Core.Path.{refl, sym, ◌∙◌}
+use mathlib.Core.Path.{sym, ◌∙◌}
 use native.Mathlib.Omega.{arith}
 use Rattle.rules.proofs.Laws.LineOf.{line_of, line_span-next}
 use Rattle.lookup.proofs.Laws.Finding.{name-order, value_none, value-unnamed, value-other, value-here}

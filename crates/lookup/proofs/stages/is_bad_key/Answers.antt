@@ -9,8 +9,8 @@ use Rattle.lookup.proofs.stages.is_bad_key.Goals.{then-size-eq0-via-then-size-eq
 pub returns-then-size-eq0 : goal.returns-then-size-eq0
 returns-then-size-eq0 c =
     sym (elim c.then-size-eq0.branch [
-      then-size-eq0-via-then-size-eq0 w ↦ is_bad_key-empty _ w.if-size-eq0.true
-    | then-size-eq0-via-else-size-eq0+then-size-gt-KEY w ↦ is_bad_key-long _ w.if-size-gt-KEY.true
+      | then-size-eq0-via-then-size-eq0 w ↦ is_bad_key-empty _ w.if-size-eq0.true
+      | then-size-eq0-via-else-size-eq0+then-size-gt-KEY w ↦ is_bad_key-long _ w.if-size-gt-KEY.true
     ])
 
 pub returns-then-word_end-size : goal.returns-then-word_end-size

@@ -10,7 +10,7 @@ pub returns : goal.returns
 returns c =
     let a = c.args in
     let room : a.at + length a.first.now + length a.bytes.now + length a.last.now ≤ length a.out.now =
-        omega (arith, length-append a.first.now (a.bytes.now ++ a.last.now), length-append a.bytes.now a.last.now) in
+    omega (arith, length-append a.first.now (a.bytes.now ++ a.last.now), length-append a.bytes.now a.last.now) in
     puts-append c.put-to.ensures
     (puts-append c.put-to-2.ensures c.put.ensures (omega (arith, c.put-to.ensures.next)))
     (omega arith)
