@@ -7,8 +7,6 @@ use lib.ListN.{length}
 use borrow.Rule.Slice.PartMut.{mid_of, put_mid}
 use Rattle.text.specs.Lines.{is_ended}
 use Rattle.sheet.specs.Output.{laid}
-use Rattle.sheet.specs.Sheet.{sheet}
-use Rattle.sheet.specs.Spans.{order_at}
 use Rattle.sheet.proofs.Laws.Output.{laid-lent}
 use Rattle.intake.specs.Book.{Book, text, added_to, added, extended}
 use Rattle.intake.proofs.Laws.Turns.{answers, appended-long, appended-short, appended-done}

@@ -1,6 +1,5 @@
 -- `intake::log::is_whole` meets its contract: the log is whole where what is left of it is, at each order and at its end.
 use mathlib.Core.Path.{sym, ap, ◌∙◌}
-use native.Mathlib.Omega.{arith}
 use lib.ListN.{drop}
 use Rattle.text.specs.Parts.{part}
 use Rattle.rules.specs.Items.{is_some}

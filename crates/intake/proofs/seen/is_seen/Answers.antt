@@ -20,15 +20,22 @@ next_heading-at-requires-in-loop-at c =
 pub loop-at-smaller : goal.loop-at-smaller
 loop-at-smaller c =
     let i = c.loop-at.invariant.1 in
-    omega (arith, c.loop-at-test.true, i,
-    search-further c.args.text.now c.loop-at.at (omega (arith, c.loop-at-test.true, i)) c.line_end.result c.next_heading-at-in-loop-at.result
-    (rw i at c.line_end.ensures) (rw i at c.next_heading-at-in-loop-at.ensures))
+    omega (
+      arith,
+      c.loop-at-test.true,
+      i,
+      search-further c.args.text.now c.loop-at.at (omega (arith, c.loop-at-test.true, i)) c.line_end.result c.next_heading-at-in-loop-at.result
+          (rw i at c.line_end.ensures) (rw i at c.next_heading-at-in-loop-at.ensures),
+    )
 
 pub loop-at-preserved : goal.loop-at-preserved
 loop-at-preserved c =
-    let l = c.loop-at.invariant in
-    (l.0, l.1, search-next _ _ l.0 _ (omega (arith, c.loop-at-test.true, l.1)) _ _
-    (rw l.1 at c.line_end.ensures) (rw l.1 at c.next_heading-at-in-loop-at.ensures) l.2 (sym c.looks_up.ensures ∙ c.if-looks_up.false))
+    let l = c.loop-at.invariant in (
+      l.0,
+      l.1,
+      search-next _ _ l.0 _ (omega (arith, c.loop-at-test.true, l.1)) _ _
+          (rw l.1 at c.line_end.ensures) (rw l.1 at c.next_heading-at-in-loop-at.ensures) l.2 (sym c.looks_up.ensures ∙ c.if-looks_up.false),
+    )
 
 pub returns : goal.returns
 returns c =
