@@ -1,7 +1,6 @@
 -- `comaltzex::comaltzex_timestamp` meets its contract: no timestamp starts past the end.
 -- Assumes nothing.
-use borrow.Author.Rules.{rules}
-use mathlib.Core.Path.{◌≡◌, ◌∙◌, ap}
+use mathlib.Core.Path.{◌≡◌, ap, ◌∙◌}
 use mathlib.Core.List.{List, []}
 use Prim.Native.Nat.{ℕ, ◌-◌, ◌<◌}
 use native.Mathlib.Omega.{arith}
@@ -11,34 +10,20 @@ use Rattle.text.specs.Parts.{part}
 use Rattle.text.proofs.Laws.Parts.{part-nil, part_length}
 use Rattle.dates.specs.Stamps.{timestamp}
 use Rattle.dates.specs.declared.stamp.Timestamp.TheVariants.{Nothing}
-use Rattle.comaltzex.proofs.comaltzex_timestamp.Statement.{statement}
-use Rattle.comaltzex.proofs.comaltzex_timestamp.Tie as tie
+use Rattle.comaltzex.proofs.comaltzex_timestamp.Goals as goal
 
 timestamp-past : (s : List ℕ) (p : ℕ) → length s < p → timestamp (part s p (length s)) ≡ (Nothing, [])
 unfolding timestamp begins word
 timestamp-past s p h = ap timestamp (part-nil s p (length s) (omega arith))
 
-returns : tie.Need-returns-then-to-at
-returns c =
-    let start = c.before.before.before in
-    c.found_stamp.ensures ∙ rw (timestamp-past start.args.text.now start.args.at (omega arith))
+pub returns-then-to-at : goal.returns-then-to-at
+returns-then-to-at c = c.found_stamp.ensures ∙ rw (timestamp-past c.args.text.now c.args.at (omega arith))
 
-returns-2 : tie.Need-returns
-returns-2 c =
+pub returns : goal.returns
+returns c =
     let call = c.read_timestamp-stamp in
-    let start = c.before.before.before.before in
-    let s = start.args.text.now in
+    let s = c.args.text.now in
     let end = call.result.end in
-    let is : timestamp (part s start.args.at (length s)) ≡ (call.result.timestamp, part s end (length s)) = call.ensures.is in
+    let is : timestamp (part s c.args.at (length s)) ≡ (call.result.timestamp, part s end (length s)) = call.ensures.is in
     let left : length s - (length s - end) ≡ end = omega (arith, call.ensures.to) in
     rw (c.found_stamp-2.ensures, is, part_length s end (length s) (omega arith), left)
-
-pub comaltzex_timestamp_spec : {M : Type 1} → statement M
-comaltzex_timestamp_spec =
-    tie.close
-    (tie.spec
-    (λ c κs. search rules)
-    returns
-    (λ c κs. search rules)
-    (λ c κs. search rules)
-    returns-2)
