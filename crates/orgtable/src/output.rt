@@ -41,13 +41,16 @@ fn put_all(out: &mut [u8], used: usize, bytes: &[u8]) -> usize
     at
 }
 
-// The digits of a number.
+// The digits of a number: those of its tenth, and the last.
 fn put_number(out: &mut [u8], used: usize, n: u64) -> usize
     requires { used + length (decimal n) ≤ length out.old }
     ensures out_after { take result out.new ≡ take used out.old ++ decimal n }
     ensures value { result ≡ used + length (decimal n) }
 {
-    let end = if n < 10 { used } else { put_number(out, used, n / 10) };
+    if n < 10 {
+        return put(out, used, b'0' + n as u8);
+    }
+    let end = put_number(out, used, n / 10);
     put(out, end, b'0' + (n % 10) as u8)
 }
 
@@ -169,10 +172,13 @@ pub fn print<W: Write>(to: &mut W, bytes: &[u8]) -> Result<(), Trouble>
 {
     let mut done = 0;
     while done < bytes.len() {
-        match to.write(&bytes[done..]) {
-            Ok(0) | Err(_) => return Err(Trouble::Unwritten),
-            Ok(count) => done += count,
+        let Ok(count) = to.write(&bytes[done..]) else {
+            return Err(Trouble::Unwritten);
+        };
+        if count == 0 {
+            return Err(Trouble::Unwritten);
         }
+        done += count;
     }
     Ok(())
 }
