@@ -3,3 +3,4 @@ pub mod Lines
 pub mod Answers
 pub mod Input
 pub mod Output
+pub mod Texts
