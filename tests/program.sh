@@ -4,7 +4,7 @@
 #     sh tests/program.sh [PROGRAM]          (target/bin/orgtable, or another one, to see this script fail)
 set -eu
 program=${1:-$(dirname "$0")/../target/bin/orgtable}
-[ -x "$program" ] || { echo "program: $program is missing: rt check orgtable" >&2; exit 1; }
+[ -x "$program" ] || { echo "program: $program is missing: tools/build program" >&2; exit 1; }
 [ -c /dev/full ] || { echo 'program: /dev/full is missing' >&2; exit 1; }
 program=$(cd "$(dirname "$program")" && pwd)/$(basename "$program")
 cd "$(dirname "$0")/.."

@@ -12,7 +12,7 @@ fn main() {
     let library = dir.join("libcomaltzex.a");
     assert!(
         dir.is_absolute() && library.is_file(),
-        "there is no {}: run `rt staticlib comaltzex` in the repository's root, \
+        "there is no {}: run `tools/build library` in the repository's root, \
          or set {LIB_DIR} to the absolute path of the library's folder",
         library.display()
     );

@@ -1,7 +1,7 @@
 #!/bin/sh
 # Where Emacs is installed: tries the recipes of docs/EMACS.md, as they stand there, on the example `orders`. Not part of the tests that run
 # everywhere.
-#     rt staticlib comaltzex && sh tests/emacs/recipes.sh
+#     tools/build library && sh tests/emacs/recipes.sh
 set -eu
 cd "$(dirname "$0")/../.."
 command -v emacs >/dev/null || { echo "emacs: not installed, no recipe tried"; exit 0; }

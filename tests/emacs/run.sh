@@ -1,12 +1,12 @@
 #!/bin/sh
 # Where Emacs is installed: compares what orgtable prints with org-element's tree, on made-up order books (so many, or 10) and on the known
 # differences, which must still be there. Not part of the tests that run everywhere.
-#     rt check orgtable && sh tests/emacs/run.sh [BOOKS [PROGRAM]]          (target/bin/orgtable, or another one, by its absolute path)
+#     tools/build program && sh tests/emacs/run.sh [BOOKS [PROGRAM]]          (target/bin/orgtable, or another one, by its absolute path)
 set -eu
 cd "$(dirname "$0")"
 program=${2:-$PWD/../../target/bin/orgtable}
 command -v emacs >/dev/null || { echo "emacs: not installed, nothing compared"; exit 0; }
-[ -x "$program" ] || { echo "emacs: $program is missing: rt check orgtable"; exit 1; }
+[ -x "$program" ] || { echo "emacs: $program is missing: tools/build program"; exit 1; }
 room=$(mktemp -d)
 trap 'rm -rf "$room"' EXIT
 

@@ -26,7 +26,7 @@ before y m = and_then m (λ os. some (y ∷ os))
 module _ (n : ℕ) (x : List ℕ) where
   pub from_end : is_empty x ≡ true → orders_from n x ≡ some []
   unfolding orders_from
-  from_end h = elim n [ zero ↦ rw (h, orders_from) | suc m ↦ rw (h, orders_from) ]
+  from_end h = elim n as (λ k. orders_from k x ≡ some []) [ zero ↦ rw (h, orders_from) | suc m ↦ rw (h, orders_from) ]
 
   pub from_step : is_empty x ≡ false → orders_from (suc n) x ≡ and_then (sized log_width x) (λ c. before c.bytes (orders_from n c.rest))
   unfolding orders_from

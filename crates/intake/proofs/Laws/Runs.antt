@@ -123,6 +123,7 @@ accepted-new b x o a = call-cases b x
 
 run-once : (b : Book) (xs : List (List ℕ)) (o : Order) → AcceptedIn b xs o → OneHeading (text (run b xs)) (request_of o) (vin_of o)
 unfolding run
+run-once b [] o x = elim x [ ]
 run-once b (x ∷ xs) o (here a) = (run_step (call b x).after xs).keeps (request_of o) (vin_of o) (accepted-new b x o a)
 run-once b (x ∷ xs) o (later a) = run-once (call b x).after xs o a
 

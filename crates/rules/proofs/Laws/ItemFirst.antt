@@ -114,6 +114,7 @@ unfolding trim_end
 trimmed-first b x h = rw (cons_unless_end-cons b (trim_end x) (starts-nonblank b h)) h
 
 shape-first : (x : List ℕ) → Shape x → starts_bullet (get_or (trim_end x) 0 0) ≡ true
+shape-first [] h = elim h [ ]
 shape-first (b ∷ x) (by_sign h) = trimmed-first b x (rw h)
 shape-first (b ∷ c ∷ x) (by-digit h i) = trimmed-first b (c ∷ x) (rw (h, or-true (is_sign true b || is_letter b)))
 shape-first (b ∷ c ∷ x) (by-letter h i) = trimmed-first b (c ∷ x) (rw (h, or-true (is_sign true b)))
@@ -156,6 +157,7 @@ no_digit c (inl h) = is_digit-above c h
 no_digit c (inr h) = is_digit-below c (omega arith)
 
 no-shape : (x : List ℕ) → Outside 42 45 (get_or x 0 0) → Outside 41 57 (get_or x 1 0) → Shape x → ⊥
+no-shape [] f n h = elim h [ ]
 no-shape (b ∷ x) f n (by_sign h) = true≢false (sym h ∙ no_sign b f)
 no-shape (b ∷ c ∷ x) f n (by-digit h i) = true≢false (sym i ∙ rw (no_digit c n) (no-mark c n))
 no-shape (b ∷ c ∷ x) f n (by-letter h i) = true≢false (sym i ∙ no-mark c n)

@@ -71,6 +71,7 @@ module _ (a d : ℕ) (r : List ℕ) (h : is_letter a ≡ true) (k : is_letter d 
 
   shape-begins : (x : List ℕ) → Shape x → begins (trim_end x) (a ∷ d ∷ r) ≡ false
   unfolding trim_end begins cons_unless_end
+  shape-begins [] i = elim i [ ]
   shape-begins (b ∷ x) (by_sign i) = begins-no b x (sign-letter b i)
   shape-begins (b ∷ c ∷ x) (by-digit i m) = begins-no b (c ∷ x) (digit-letter b i)
   shape-begins (b ∷ c ∷ x) (by-letter i m) =

@@ -140,6 +140,8 @@ module _ {k : ℕ} where
       go : (o u : Option Found) → Agree k o u → Agree k (first_of rs x) (first_of rs y)
           → Agree k (elim o [ none ↦ first_of rs x | some f ↦ some f ]) (elim u [ none ↦ first_of rs y | some f ↦ some f ])
       go none none neither later = later
+      go none (some g) a later = elim a [ ]
+      go (some f) none a later = elim a [ ]
       go (some f) (some g) (both a) later = both a
 
 -- ---- rule by rule, at a line l before the lines z, of which j are given
@@ -255,4 +257,6 @@ module _ (l : Line) (z : List Line) (j : ℕ) where
     where
       go : (o u : Option Found) → first_of rules3to5 x ≡ o → first_of rules3to5 y ≡ u → Agree k o u → together y ≡ together x
       go none none h i neither = together-one y i ∙ sym (together-one x h)
+      go none (some g) h i a = elim a [ ]
+      go (some f) none h i a = elim a [ ]
       go (some f) (some g) h i (both a) = omega (arith, together-some y g i, a.own, together-some x f h)

@@ -46,6 +46,7 @@ deep-pass (gap b e d x) (suc (suc j)) i = let (k, a, y) = deep-pass x j i in (k,
 deep_step : (w n : ℕ) (ls : List Line) → ((k : ℕ) (x : List Line) → k < n → Deep w k x → item_lines w 0 x ≡ k) → Deep w n ls → item_lines w 0 ls ≡ n
 unfolding head_line
 deep_step w zero ls f (rest r) = gapped-none (item-gapped w) ls (ap (item_lines w 0) r ∙ item_lines-nil w 0)
+deep_step w (suc n) [] f r = elim r [ ]
 deep_step w (suc n) (l ∷ ls) f (line e d x) =
     let j = together (l ∷ ls) - 1 in
     let one : together (l ∷ ls) ≡ suc j = omega (arith, together-least (l ∷ ls)) in

@@ -2,14 +2,15 @@
 use mathlib.Core.Path.{◌≡◌, refl}
 use mathlib.Core.Bool.{false}
 use mathlib.Core.List.{List, [], ◌∷◌, ◌++◌}
-use Prim.Native.Nat.{ℕ, zero, suc}
+use Prim.Native.Nat.{ℕ, zero, suc, ◌+◌}
 use native.Mathlib.Omega.{arith}
-use lib.ListN.{get_or}
+use lib.ListN.{length, get_or}
 use Rattle.rules.specs.Kind.{counts_depth}
 use Rattle.rules.proofs.Basics.{All, all_nil, all_cons}
 use Rattle.table.specs.declared.record.Record.{Record}
 use Rattle.table.specs.Nesting.{depth_in, depths, greatest, nesting}
 use Rattle.sheet.specs.Order.{Pair, Order}
+use Rattle.sheet.specs.Sheet.{pair_line}
 use Rattle.sheet.specs.Table.{pair_records, sheet_table}
 
 -- ---- depths that are all 0
@@ -38,7 +39,7 @@ depths-flat (r ∷ R) ds (all_cons n h) i = depths-flat R _ h (greatest-snoc ds 
 pair_records-flat : (p n : ℕ) (ps : List Pair) → Flat (pair_records p n ps)
 unfolding pair_records counts_depth
 pair_records-flat p n [] = all_nil
-pair_records-flat p n (x ∷ ps) = all_cons refl (pair_records-flat _ _ ps)
+pair_records-flat p n (x ∷ ps) = all_cons refl (pair_records-flat (p + length (pair_line x)) (n + 1) ps)
 
 pub nesting-sheet : (o : Order) → nesting (sheet_table o) ≡ 0
 unfolding nesting greatest sheet_table counts_depth

@@ -106,7 +106,8 @@ group_at s hs p k = section s (heading_at s hs p) k (suc k)
 module _ (n : ℕ) (s : List ℕ) (hs : Earlier) (p k : ℕ) where
   pub headings-none : length s ≤ p → headings n s hs p k ≡ []
   unfolding headings
-  headings-none h = elim n [ zero ↦ refl | suc m ↦ rw (le-ltb p (length s) h, headings) ]
+  headings-none h =
+      elim n as (λ n. headings n s hs p k ≡ []) [ zero ↦ refl | suc m ↦ rw (le-ltb p (length s) h, headings) ]
 
   pub headings-step : p < length s → let g = group_at s hs p k in
       headings (suc n) s hs p k ≡ heading_at s hs p ∷ (g ++ headings n s ((k, stars_at s p) ∷ hs) (next_heading s p) (suc k + length g))

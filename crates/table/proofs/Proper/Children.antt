@@ -149,7 +149,10 @@ module _ (f : Record → Bool) where
           child = child_at-next c.child;
           is = c.is;
           passes = c.passes;
-          before = λ n. elim n [ zero ↦ λ b. h | suc m ↦ λ b d. c.before m (omega arith) (child_at-before d) ];
+          before = λ n. elim n as (λ n. n < suc c.index → ChildAt (r ∷ X) q n → f (at (r ∷ X) n) ≡ false) [
+            zero ↦ λ b. h |
+            suc m ↦ λ b d. c.before m (omega arith) (child_at-before d)
+          ];
         }
 
     pub with_parent-first : (X : List Record) (x : Record) → first f (with_parent q X) ≡ some x → FirstChild f X q x

@@ -11,7 +11,7 @@ use Rattle.dates.specs.Reads.{digit}
 use Rattle.dates.proofs.parts.digit_value.Statement.{statement}
 use Rattle.dates.proofs.parts.digit_value.Tie as tie
 
-sub-result : tie.Need-overflow-sub-result
+sub-result : tie.Need-overflow_sub-result
 unfolding is_digit
 sub-result c =
     let at-is-digit = c.before in

@@ -26,10 +26,10 @@ loop-holds c =
     let z : start.args.from - start.args.from ≡ 0 = omega arith in
     (omega arith, omega arith, omega arith, rw z (omega arith), refl)
 
-mul-v : tie.Need-overflow-mul-v invariant-loop-i decreases-loop-i
+mul-v : tie.Need-overflow_mul-v invariant-loop-i decreases-loop-i
 mul-v c = let b = value-small _ _ c.loop-i.invariant.3 (omega arith) in omega arith
 
-add-v : tie.Need-overflow-add-v invariant-loop-i decreases-loop-i
+add-v : tie.Need-overflow_add-v invariant-loop-i decreases-loop-i
 add-v c =
     let at-loop = c.before.before.before in
     let b = value-small _ _ at-loop.loop-i.invariant.3 (omega arith) in omega arith

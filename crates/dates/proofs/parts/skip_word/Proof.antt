@@ -7,8 +7,8 @@ use Rattle.dates.proofs.Laws.Reads.{begins-room, expect-some, expect-none}
 use Rattle.dates.proofs.parts.skip_word.Statement.{statement}
 use Rattle.dates.proofs.parts.skip_word.Tie as tie
 
-add-t8 : tie.Need-overflow-add-t8
-add-t8 c =
+add-result : tie.Need-overflow_add-result
+add-result c =
     let at-begins-with = c.before in
     let start = at-begins-with.before.before.before in
     let r = begins-room _ _ _ _ start.requires.1 (sym at-begins-with.begins_with.ensures ∙ c.if-begins_with.true) in omega arith
@@ -27,6 +27,6 @@ skip_word_spec =
     tie.close
     (tie.spec
     (λ c κs. search rules)
-    add-t8
+    add-result
     returns
     returns-2)

@@ -19,8 +19,8 @@ decreases-loop-at table from stars at₀ at = at
 returns : tie.Need-returns-then-table-row invariant-loop-at decreases-loop-at
 returns c = (sym (parent_short _ _ _ c.if-table-row.true) ∙ c.loop-at.invariant.1, omega arith)
 
-cast-if2 : tie.Need-overflow-cast-if2 invariant-loop-at decreases-loop-at
-cast-if2 c = omega (arith, c.shared_slice_known-1.given (c.loop-at.at * record_size + detail_place))
+cast-table : tie.Need-overflow_cast-table invariant-loop-at decreases-loop-at
+cast-table c = omega (arith, c.shared_slice_known-1.given (c.loop-at.at * record_size + detail_place))
 
 returns-2 : tie.Need-returns-then-table-row-2 invariant-loop-at decreases-loop-at
 returns-2 c =
@@ -28,7 +28,7 @@ returns-2 c =
     let at_test = at_row.before in
     (sym (parent-here _ _ _ at_test.loop-at-test.true at_row.if-table-row.false c.if-table-row-2.true) ∙ at_test.loop-at.invariant.1, omega arith)
 
-cast-parent : tie.Need-overflow-cast-parent invariant-loop-at decreases-loop-at
+cast-parent : tie.Need-overflow_cast-parent invariant-loop-at decreases-loop-at
 cast-parent c = omega (arith, c.shared_slice_known-in-loop-at-1.given (c.loop-at.at * record_size + parent_place))
 
 returns-3 : tie.Need-returns-then-at-parent invariant-loop-at decreases-loop-at
@@ -61,7 +61,7 @@ find_parent_spec =
     (λ c. omega arith)
     (λ c. omega arith)
     (λ c. omega arith)
-    cast-if2
+    cast-table
     returns-2
     (λ c. omega arith)
     (λ c. omega arith)

@@ -15,7 +15,6 @@ use Rattle.table.specs.Makers.{heading_record}
 use Rattle.table.specs.Reading.{nearest}
 use Rattle.reading.specs.Walk.{State, state, entry, absorb, HeadingLine}
 use Rattle.reading.specs.Tracked.{Earlier, last_index, Tracked}
-use Rattle.table.proofs.Basics.{on}
 use Rattle.text.specs.Limits.{text_limit}
 use Rattle.text.specs.LineNumbers.{line_number}
 use Rattle.text.proofs.Laws.LineNumbers.{line_number-le, line_number-next}
@@ -25,6 +24,7 @@ use Rattle.reading.proofs.Laws.Tracked.{tracked-heading}
 use Rattle.reading.proofs.Laws.Turns.{heading-entry}
 use Rattle.reading.proofs.headings.read_heading.Statement.{statement}
 use Rattle.reading.proofs.headings.read_heading.Tie as tie
+use Rattle.reading.proofs.headings.read_heading.Lts.{then-sink, else-sink}
 
 next-heading-requires : tie.Need-next_heading-next-requires
 next-heading-requires c κs =
@@ -41,10 +41,10 @@ module _ (c : tie.After-next_heading-next) where
 
   line : HeadingLine s start.args.at c.line_end-inner.result c.next_heading-next.result c.heading_stars-stars.result
   line =
-      let inner = heading-line s _ start.pre.0 start.pre.1 _ c.line_end-inner.ensures in
+      let inner = heading-line s _ start.requires.0 start.requires.1 _ c.line_end-inner.ensures in
       record {
-        here = start.pre.0;
-        some = start.pre.1;
+        here = start.requires.0;
+        some = start.requires.1;
         stars = c.heading_stars-stars.ensures;
         end = c.line_end-inner.ensures;
         next = c.next_heading-next.ensures ∙ next_line-up_to s (length s) _ inner.1 (omega arith);
@@ -52,16 +52,19 @@ module _ (c : tie.After-next_heading-next) where
 
   -- its number, and that of the line after it
   number_small : start.args.number ≤ text_limit
-  number_small = omega (arith, start.pre.4, line_number-le s start.args.at, start.pre.0.limit, start.pre.1)
+  number_small = omega (arith, start.requires.4, line_number-le s start.args.at, start.requires.0.limit, start.requires.1)
 
   inner-line : c.line_end-inner.result < length s → start.args.number + 1 ≡ line_number s c.line_end-inner.result
-  inner-line i = ap (λ (k : ℕ). k + 1) start.pre.4 ∙ (sym (line_number-next s _ (length s) _ start.pre.1 (omega arith) c.line_end-inner.ensures i))
+  inner-line i = ap (λ (k : ℕ). k + 1) start.requires.4 ∙ (sym (line_number-next s _ (length s) _ start.requires.1 (omega arith) c.line_end-inner.ensures i))
 
 heading-record-requires : tie.Need-heading_record-r-requires
-heading-record-requires c κs = let at_next = c.before.before in (line at_next, (start at_next).requires.2, (start at_next).requires.4)
+heading-record-requires c κs = let at_next = c.before in (line at_next, (start at_next).requires.2, (start at_next).requires.4)
 
 emit-requires : tie.Need-emit-out-requires
-emit-requires c κs = (on c.if-sink.branch (λ w. rw w.3 w.2.ensures.1) (λ w. rw w.2 w.1.ensures), omega arith)
+emit-requires c κs = (
+  elim c.if-sink.branch [ then-sink w ↦ rw w.r-is w.heading_record-r.ensures.1 | else-sink w ↦ rw w.r-is w.unwritten-r.ensures ],
+  omega arith,
+)
 
 read-section-requires : tie.Need-read_section-section-requires
 read-section-requires c κs =
@@ -87,19 +90,20 @@ module _ (c : tie.After-emit-out) where
   at_next = c.before.before.before
 
   abbrev st : State
-  st = state (start at_next).args.table-1.now (start at_next).args.sink
+  st = state (start at_next).args.table.now (start at_next).args.sink
 
   emitted : (hs : Earlier) → (start at_next).args.last ≡ last_index hs → Tracked st hs
       → let p = (start at_next).args.at in
-      state c.emit-out.new.0 c.emit-out.result
+      state c.emit-out.new.table c.emit-out.result
       ≡ absorb st (entry (heading_record (s at_next) (nearest (stars (line_at (s at_next) p)) hs) p) 0)
   emitted hs last tracked =
       let l = line at_next in
       let many = heading-stars _ _ l.here l.some _ l.stars in
       c.emit-out.ensures.0
-      ∙ on c.if-sink.branch
-      (λ w. ap (λ (r : Record). absorb st (entry r 0)) (w.3 ∙ w.2.ensures.0) ∙ tracked-heading tracked (s at_next) _ _ (λ i. cc))
-      (λ w. absorb-any st _ _ 0 w.0.left)
+      ∙ elim c.if-sink.branch [
+        | then-sink w ↦ ap (λ (r : Record). absorb st (entry r 0)) (w.r-is ∙ w.heading_record-r.ensures.0) ∙ tracked-heading tracked (s at_next) _ _ (λ i. cc)
+        | else-sink w ↦ absorb-any st _ _ 0 w.if-sink.false
+      ]
 
 returns : tie.Need-returns
 unfolding heading_record
@@ -110,10 +114,13 @@ returns c =
     let order = heading_line-order l in
     let section = rw l.end at at-section.read_section-section.ensures.0 in
     let count : at-section.read_section-section.result.sink.count ≤ 2 * (at_next at-emit).next_heading-next.result + 2 =
-    omega (arith, at-section.read_section-section.ensures.1.0, at-emit.emit-out.ensures.1, (start (at_next at-emit)).pre.3, order) in (
+    omega (arith, at-section.read_section-section.ensures.1.0, at-emit.emit-out.ensures.1, (start (at_next at-emit)).requires.3, order) in (
       (omega arith, l.next ∙ ap (next_line is_heading (s (at_next at-emit))) l.end, count, at-section.read_section-section.ensures.1.1),
       λ hs last tracked. heading-entry _ hs _ _ _ _ (emitted at-emit hs last tracked) section,
     )
+
+number-fits : tie.Need-overflow_add-number
+number-fits c = omega (arith, number_small c.before.before.before.before.before)
 
 pub read_heading_spec : {M : Type 1} → statement M
 read_heading_spec =
@@ -125,7 +132,7 @@ read_heading_spec =
     heading-record-requires
     (λ c κs. search rules)
     emit-requires
-    (λ c. omega (arith, number_small c.before.before.before.before.before))
+    number-fits
     read-section-requires
     (λ c. search rules)
     returns)

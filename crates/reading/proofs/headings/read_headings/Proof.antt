@@ -77,7 +77,7 @@ loop-again c =
           let w = loop.invariant.way hs index tracked in
           let made = at-heading.read_heading-turn.ensures.1 w.earlier w.index w.tracked in
           record {
-            earlier = (loop.out-1.count, stars (line_at _ loop.at)) ∷ w.earlier;
+            earlier = (loop.out.count, stars (line_at _ loop.at)) ∷ w.earlier;
             index = refl;
             tracked = tracked-entry w.tracked _ _ made;
             same = rw next (heading-turn _ _ _ _ _ some made ∙ w.same);

@@ -3,7 +3,6 @@
 -- Assumes nothing.
 use mathlib.Core.Path.{◌≡◌, sym, ap, ◌∙◌}
 use mathlib.Core.Bool.{Bool}
-use mathlib.Core.Logic.{⊎_elim}
 use mathlib.Core.List.{List}
 use Prim.Native.Nat.{ℕ, ◌+◌, ◌≤◌, ◌<◌}
 use native.Mathlib.Omega.{arith}
@@ -27,6 +26,7 @@ use Rattle.rules.proofs.Laws.LineOf.{line_of, line_span-start}
 use Rattle.reading.proofs.Laws.Steps.{Stepped, stepped, step_end, step-lies, step_lines, step_range, step-place, step-all, step-known}
 use Rattle.reading.proofs.walk.next_element.Statement.{statement}
 use Rattle.reading.proofs.walk.next_element.Tie as tie
+use Rattle.reading.proofs.walk.next_element.Lts.{then-items, else-items}
 
 -- what `item_at` and `element_at` answer, of the line that `line_at` does
 item-is : (s : List ℕ) (p e : ℕ) (l : LineSpan) (pl : Place) (b : Bool) (m : ℕ) (r : Parsed) → l ≡ line_span s p e
@@ -52,14 +52,20 @@ here : (c : tie.Joined-items) → let a = c.args in
 here c =
     let pre = c.requires in
     let at-line = c.line_at-line.ensures in
-    ⊎_elim
-    (λ w. ap (λ (r : Parsed). r.element) w.2 ∙ rw w.0.taken (item-is _ _ _ _ _ _ _ _ at-line w.1.ensures))
-    (λ w. ap (λ (r : Parsed). r.element) w.2 ∙ rw w.0.left (element-is _ _ _ _ _ _ _ _ at-line (pre.0.place w.0.left pre.1) w.1.ensures))
-    c.if-items.branch
+    elim c.if-items.branch [
+      | then-items w ↦ ap (λ (r : Parsed). r.element) w.parsed-is ∙ rw w.if-items.true (item-is _ _ _ _ _ _ _ _ at-line w.item_at-parsed.ensures)
+      | else-items w ↦
+          ap (λ (r : Parsed). r.element) w.parsed-is
+          ∙ rw w.if-items.false (element-is _ _ _ _ _ _ _ _ at-line (pre.0.place w.if-items.false pre.1) w.element_at-parsed.ensures)
+    ]
 
 known : (c : tie.Joined-items) → let a = c.args in
     Knows a.text.now c.if-items.parsed.element.end a.to c.if-items.parsed.ends c.if-items.parsed.names
-known c = ⊎_elim (λ w. rw w.2 w.1.ensures.known) (λ w. rw w.2 w.1.ensures.known) c.if-items.branch
+known c =
+    elim c.if-items.branch [
+      | then-items w ↦ rw w.parsed-is w.item_at-parsed.ensures.known
+      | else-items w ↦ rw w.parsed-is w.element_at-parsed.ensures.known
+    ]
 
 steps : (c : tie.Joined-items) → let start = c.before.before.before in let a = start.args in
     Stepped a.items a.text.now a.at a.to start.requires.1
@@ -109,15 +115,27 @@ returns c =
 limit : (c : tie.After-line_at-line) → let a = c.args in a.to ≤ text_limit
 limit c = let range = c.requires.0.range in omega (arith, range.text, range.limit)
 
+item-requires : tie.Need-item_at-parsed-requires
+item-requires c κs = (line c.before, limit c.before)
+
+element-requires : tie.Need-element_at-parsed-requires
+element-requires c κs = (line c.before, limit c.before)
+
+own : tie.Need-overflow_add-result
+own c = omega (arith, lines c.before, number-le c.before.before.before.before.before)
+
+own-blank : tie.Need-overflow_add-result-2
+own-blank c = omega (arith, lines c.before.before, number-le c.before.before.before.before.before.before)
+
 pub next_element_spec : {M : Type 1} → statement M
 next_element_spec =
     tie.close
     (tie.spec
     (λ c κs. search rules)
-    (λ c κs. (line c.before, limit c.before))
-    (λ c κs. (line c.before, limit c.before))
+    item-requires
+    element-requires
     first-line-requires
-    (λ c. omega (arith, lines c.before, number-le c.before.before.before.before.before))
-    (λ c. omega (arith, lines c.before.before, number-le c.before.before.before.before.before.before))
+    own
+    own-blank
     (λ c κs. search rules)
     returns)

@@ -90,7 +90,7 @@ loop-again c =
     let n = next at-line in (
       n.1,
       omega arith,
-      at-emit.emit-out.auto.0 ∙ inv.2,
+      at-emit.emit-out.auto.table ∙ inv.2,
       line-turn _ _ _ _ args.parent _ args.rows _ _ _ at_test.loop-at-test.true start.requires.0.1 at-line.line_at-line.ensures
           at-record.line_record-r.ensures at-emit.emit-out.ensures.0
           ∙ inv.3,
@@ -103,19 +103,25 @@ returns-2 c =
     let args = c.args in
     (sym (lines_none args.text.now args.rows _ args.parent args.depth _ loop.out.count _ c.loop-at-test.false) ∙ loop.invariant.3, omega arith)
 
+counted-fits : tie.Need-overflow_add-result invariant-loop-at decreases-loop-at
+counted-fits c = omega (arith, lines-le c.before)
+
+number-fits : tie.Need-overflow_add-n invariant-loop-at decreases-loop-at
+number-fits c = let n = number_small c.before.before.before.before.before in omega arith
+
 pub read_lines_spec : {M : Type 1} → statement M
 read_lines_spec =
     tie.close
     (tie.spec
     invariant-loop-at
     decreases-loop-at
-    (λ c. omega (arith, lines-le c.before))
+    counted-fits
     returns
     (λ c. (omega arith, omega arith, refl, refl, c.requires.1.3))
     (λ c κs. omega arith)
     line-record-requires
     emit-requires
-    (λ c. let n = number_small c.before.before.before.before.before in omega arith)
+    number-fits
     loop-less
     loop-again
     (λ c. c.loop-at.invariant.2)

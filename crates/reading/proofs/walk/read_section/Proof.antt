@@ -27,25 +27,25 @@ module _ (c : tie.After-first_line-first) where
 
   order : (start.args.from ≤ c.first_line-first.result.at) × (c.first_line-first.result.at ≤ start.args.to) × (start.args.to ≤ length start.args.text.now)
   order =
-      let at = start.pre.0 in
+      let at = start.requires.0 in
       let end = section-end _ _ _ at.limit at.start at.end in
       let first = section-first _ _ _ at.limit at.start at.end _ c.first_line-first.ensures.0 in
       omega arith
 
   range : Range start.args.text.now c.first_line-first.result.at start.args.to
-  range = let at = start.pre.0 in section-range _ _ _ at.limit at.start at.end _ c.first_line-first.ensures.0
+  range = let at = start.requires.0 in section-range _ _ _ at.limit at.start at.end _ c.first_line-first.ensures.0
 
   -- the line number there, of what is in the text
   number : c.first_line-first.result.at < length start.args.text.now
       → start.args.number + c.first_line-first.result.lines ≡ line_number start.args.text.now c.first_line-first.result.at
   number i =
-      let at = start.pre.0 in
-      section-number _ _ _ at.limit at.start at.end _ c.first_line-first.ensures.0 _ c.first_line-first.ensures.1 _ start.pre.3 i
+      let at = start.requires.0 in
+      section-number _ _ _ at.limit at.start at.end _ c.first_line-first.ensures.0 _ c.first_line-first.ensures.1 _ start.requires.3 i
 
   number_small : start.args.number + c.first_line-first.result.lines ≤ far + length start.args.text.now
   number_small =
-      let at = start.pre.0 in
-      omega (arith, start.pre.4, section-blanks _ _ _ at.limit at.start at.end _ c.first_line-first.ensures.1)
+      let at = start.requires.0 in
+      omega (arith, start.requires.4, section-blanks _ _ _ at.limit at.start at.end _ c.first_line-first.ensures.1)
 
 placed : (c : tie.After-first_place-here) → let at_first = c.before.before.before in
     c.first_place-here.result ≡ place_at (start at_first).args.text.now at_first.first_line-first.result.at
@@ -99,12 +99,15 @@ returns-2 c =
       (omega (arith, at_read.read_elements.ensures.1.0), (at_read.read_elements.ensures.1.1 at_test.if-to-at.false).1),
     )
 
+number-fits : tie.Need-overflow_add-n
+number-fits c = let n = number_small c.before in omega arith
+
 pub read_section_spec : {M : Type 1} → statement M
 read_section_spec =
     tie.close
     (tie.spec
     first-line-requires
-    (λ c. let n = number_small c.before in omega arith)
+    number-fits
     returns
     (λ c κs. search rules)
     emit-requires

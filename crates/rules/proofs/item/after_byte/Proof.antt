@@ -2,7 +2,6 @@
 -- Assumes nothing.
 use mathlib.Core.Path.{sym, ◌∙◌}
 use borrow.Author.Rules.{rules}
-use borrow.Author.Tests.{not-true, not-false}
 use Rattle.rules.specs.Bullets.{item_test}
 use Rattle.rules.proofs.Laws.Bullets.{item_test-newline, byte-none, byte-no, byte-yes}
 use Rattle.rules.proofs.item.after_byte.Statement.{statement}
@@ -17,7 +16,7 @@ returns-2 c =
     let at_some = at_call.before.before in
     let start = at_some.before.before in
     byte-no _ _ _ at_some.if-to-at.false start.requires.1 (item_test start.args.class)
-    (sym at_call.is_item_byte.ensures ∙ not-true _ c.if-not-is_item_byte.true)
+    (sym at_call.is_item_byte.ensures ∙ c.if-not-is_item_byte.true)
 
 returns-3 : tie.Need-returns
 returns-3 c =
@@ -25,7 +24,7 @@ returns-3 c =
     let at_some = at_call.before.before in
     let start = at_some.before.before in
     byte-yes _ _ _ at_some.if-to-at.false start.requires.1 (item_test start.args.class) (item_test-newline start.args.class)
-    (sym at_call.is_item_byte.ensures ∙ not-false _ c.if-not-is_item_byte.false)
+    (sym at_call.is_item_byte.ensures ∙ c.if-not-is_item_byte.false)
 
 pub after_byte_spec : {M : Type 1} → statement M
 after_byte_spec =

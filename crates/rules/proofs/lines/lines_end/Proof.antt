@@ -4,7 +4,6 @@
 use mathlib.Core.Path.{◌≡◌, sym, ◌∙◌}
 use Prim.Native.Nat.{◌+◌, ◌-◌, ◌≤◌, ◌<◌}
 use native.Mathlib.Omega.{arith}
-use borrow.Author.Tests.{not-true, not-false}
 use lib.ListN.{length}
 use Rattle.text.specs.Parts.{line_in}
 use Rattle.rules.specs.LineTests.{line_test}
@@ -35,7 +34,7 @@ returns c =
     let at_body = c.before.before in
     let inv = at_body.loop-at.invariant in
     counted-here _ _ _ _ _ _ inv.3
-    (sym (c.starts_line.ensures _ (indent-run _ _ _ _ at_body.run_end-body.ensures)) ∙ not-true _ c.if-not-starts_line.true)
+    (sym (c.starts_line.ensures _ (indent-run _ _ _ _ at_body.run_end-body.ensures)) ∙ c.if-not-starts_line.true)
 
 -- where the line ends
 end : (c : tie.After-line_end-at invariant-loop-at decreases-loop-at) → let at-loop = c.before.before.before.before.before in
@@ -62,7 +61,7 @@ loop-again c =
       inv.1,
       omega (arith, next c),
       counted_skip _ _ _ _ _ _ inv.3 at_test.loop-at-test.true inv.1 _ (end c)
-          (sym (c.starts_line.ensures _ (indent-run _ _ _ _ at_body.run_end-body.ensures)) ∙ not-false _ c.if-not-starts_line.false),
+          (sym (c.starts_line.ensures _ (indent-run _ _ _ _ at_body.run_end-body.ensures)) ∙ c.if-not-starts_line.false),
     )
 
 returns-2 : tie.Need-returns invariant-loop-at decreases-loop-at

@@ -1,7 +1,6 @@
 -- `rules::lines::try_run` meets its contract: the law of a run of lines, at the end that the run has.
 use mathlib.Core.Path.{sym, ◌∙◌}
 use native.Mathlib.Omega.{arith}
-use borrow.Author.Tests.{not-true, not-false}
 use Rattle.text.specs.Parts.{lines_in}
 use Rattle.text.proofs.Laws.Lines.{leading_le}
 use Rattle.text.proofs.Laws.LinesIn.{lines_in-length}
@@ -17,12 +16,12 @@ starts-line-requires c κs = let o = line_of-order _ _ _ c.requires.0.line in om
 returns : tie.Need-returns-then-not-starts_line
 returns c =
     let pre = c.requires.0.line in
-    run_of-no _ _ _ pre _ _ (sym (c.starts_line.ensures _ (line_of-from _ _ _ pre)) ∙ not-true _ c.if-not-starts_line.true)
+    run_of-no _ _ _ pre _ _ (sym (c.starts_line.ensures _ (line_of-from _ _ _ pre)) ∙ c.if-not-starts_line.true)
 
 lines-end-requires : tie.Need-lines_end-run-requires
 lines-end-requires c κs = let o = line_of-order _ _ _ c.requires.0.line in omega arith
 
-add : tie.Need-overflow-add-t9
+add : tie.Need-overflow_add-result
 add c =
     let at-run = c.before in
     let start = at-run.before.before.before.before in
@@ -37,7 +36,7 @@ returns-2 c =
     let at-run = c.before in
     let at_test = at-run.before in
     let pre = at_test.requires in
-    run_of-yes _ _ _ pre.0.line _ _ pre.1 (sym (at_test.starts_line.ensures _ (line_of-from _ _ _ pre.0.line)) ∙ not-false _ at_test.if-not-starts_line.false)
+    run_of-yes _ _ _ pre.0.line _ _ pre.1 (sym (at_test.starts_line.ensures _ (line_of-from _ _ _ pre.0.line)) ∙ at_test.if-not-starts_line.false)
     _ _ at-run.lines_end-run.ensures.0 at-run.lines_end-run.ensures.1
 
 pub try_run_spec : {M : Type 1} → statement M

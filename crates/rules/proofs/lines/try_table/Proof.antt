@@ -4,7 +4,6 @@ use mathlib.Core.Path.{sym, ◌∙◌}
 use Prim.Native.Nat.{◌+◌, ◌≤◌}
 use native.Mathlib.Omega.{arith}
 use lib.ListN.{length}
-use borrow.Author.Tests.{not-true, not-false}
 use Rattle.text.specs.Parts.{lines_in}
 use Rattle.text.proofs.Laws.Lines.{leading_le}
 use Rattle.text.proofs.Laws.LinesIn.{lines_in-length}
@@ -21,7 +20,7 @@ starts-line-requires c κs = let o = line_of-order _ _ _ c.requires.line in omeg
 returns : tie.Need-returns-then-not-starts_line
 returns c =
     let pre = c.requires.line in
-    table-no _ _ _ pre (sym (c.starts_line.ensures _ (line_of-from _ _ _ pre)) ∙ not-true _ c.if-not-starts_line.true)
+    table-no _ _ _ pre (sym (c.starts_line.ensures _ (line_of-from _ _ _ pre)) ∙ c.if-not-starts_line.true)
 
 lines-end-requires : tie.Need-lines_end-rows-requires
 lines-end-requires c κs = let o = line_of-order _ _ _ c.requires.line in omega arith
@@ -60,7 +59,7 @@ returns-2 c =
     let at_rows = at-formulas.before in
     let at_test = at_rows.before in
     let pre = at_test.requires.line in
-    table-yes _ _ _ pre (sym (at_test.starts_line.ensures _ (line_of-from _ _ _ pre)) ∙ not-false _ at_test.if-not-starts_line.false)
+    table-yes _ _ _ pre (sym (at_test.starts_line.ensures _ (line_of-from _ _ _ pre)) ∙ at_test.if-not-starts_line.false)
     _ _ _ _ at_rows.lines_end-rows.ensures.0 at-formulas.lines_end-formulas.ensures.0 at_rows.lines_end-rows.ensures.1 at-formulas.lines_end-formulas.ensures.1
 
 pub try_table_spec : {M : Type 1} → statement M

@@ -26,7 +26,7 @@ item-end-requires c κs =
     let o = line_of-order _ _ _ pre.0.line in
     record { order = o.4; text = o.5; limit = pre.1; known = knows-next _ _ _ _ _ pre.0.line pre.0.known }
 
-add : tie.Need-overflow-add-t7
+add : tie.Need-overflow_add-result
 unfolding item_run run_by
 add c =
     let at-end = c.before.before in
@@ -35,7 +35,7 @@ add c =
     let l = start.args.line in
     let e = start.args.scope.end in
     let o = line_of-order _ _ _ start.requires.0.line in
-    let lines = ap (λ (x : LineRun). x.lines) at-end.item_end-further.ensures.run-1 in
+    let lines = ap (λ (x : LineRun). x.lines) at-end.item_end-further.ensures.run in
     omega (arith, lines, item_lines-le at-end.indent_width-width.result 0 (lines_in s l.end e), lines_in-length s l.end e o.4 o.5)
 
 returns : tie.Need-returns
@@ -44,7 +44,7 @@ returns c =
     let start = at-end.before.before.before in
     let line = start.requires.0.line in
     let wide = at-end.indent_width-width.ensures ∙ sym (width-part _ _ _ _ (line_of-from _ _ _ line)) in
-    record { is = item-spanned _ _ _ line _ wide _ at-end.item_end-further.ensures.run-1 _ c.left_start.ensures; known = at-end.item_end-further.ensures.known }
+    record { is = item-spanned _ _ _ line _ wide _ at-end.item_end-further.ensures.run _ c.left_start.ensures; known = at-end.item_end-further.ensures.known }
 
 pub item_at_spec : {M : Type 1} → statement M
 item_at_spec = tie.close (tie.spec indent-width-requires item-end-requires add (λ c κs. c.requires.0.line) returns)

@@ -26,7 +26,7 @@ list-end-requires c κs =
 returns : tie.Need-returns
 returns c =
     let at-end = c.before.before in
-    record { is = list-spanned _ _ _ _ _ c.list_detail.ensures at-end.list_end-further.ensures.run-1; known = at-end.list_end-further.ensures.known }
+    record { is = list-spanned _ _ _ _ _ c.list_detail.ensures at-end.list_end-further.ensures.run; known = at-end.list_end-further.ensures.known }
 
 pub list_at_spec : {M : Type 1} → statement M
 list_at_spec = tie.close (tie.spec indent-width-requires list-end-requires (λ c κs. c.requires.0.line) returns)

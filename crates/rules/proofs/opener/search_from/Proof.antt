@@ -3,7 +3,6 @@
 use mathlib.Core.Path.{sym, ◌∙◌}
 use native.Mathlib.Omega.{arith}
 use borrow.Author.Rules.{rules}
-use borrow.Author.Tests.{not-true, not-false}
 use Rattle.rules.proofs.Laws.LineOf.{line_of, line_span-start}
 use Rattle.rules.proofs.Laws.Openers.{search-outside, search-behind, search-inside, search-line}
 use Rattle.rules.proofs.opener.search_from.Statement.{statement}
@@ -18,7 +17,7 @@ returns-2 c = c.no_search-then-to-at.ensures ∙ search-behind _ _ _ c.if-to-at.
 returns-3 : tie.Need-returns-then-not-starts_line
 returns-3 c =
     let at-start = c.before.before in
-    c.no_search-then-not-starts_line.ensures ∙ search-inside _ _ _ (sym at-start.starts_line.ensures ∙ not-true _ c.if-not-starts_line.true)
+    c.no_search-then-not-starts_line.ensures ∙ search-inside _ _ _ (sym at-start.starts_line.ensures ∙ c.if-not-starts_line.true)
 
 search-from-line-requires : tie.Need-search_from_line-requires
 search-from-line-requires c κs = line_of _ _ _ _ c.if-to-at.false c.if-text-to.false c.line_at-line.ensures
@@ -29,7 +28,7 @@ returns-4 c =
     let at-start = at-line.before.before in
     rw (line_span-start _ _ _ _ at-line.line_at-line.ensures) at c.search_from_line.ensures
     ∙ search-line _ _ _ at-start.if-text-to.false at-start.if-to-at.false
-    (sym at-start.starts_line.ensures ∙ not-false _ at-line.if-not-starts_line.false)
+    (sym at-start.starts_line.ensures ∙ at-line.if-not-starts_line.false)
 
 pub search_from_spec : {M : Type 1} → statement M
 search_from_spec =

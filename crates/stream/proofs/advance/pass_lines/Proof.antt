@@ -9,7 +9,7 @@ returns : tie.Need-returns-then-start-at
 returns c =
     let at_last = c.before.before.before in
     let pre = at_last.requires in
-    advance-plain _ _ _ pre.0 pre.1 pre.2 _ at_last.next_star_line-end.ensures _ at_last.last_Line.ensures
+    advance-plain _ _ _ pre.0 pre.1 pre.2 _ at_last.next_star_line-end.ensures _ at_last.last_line-start.ensures
     c.if-start-at.true
     refl
 
@@ -17,7 +17,7 @@ returns-2 : tie.Need-returns
 returns-2 c =
     let at_last = c.before.before in
     let pre = at_last.requires in
-    advance-lines _ _ _ pre.0 pre.1 pre.2 _ at_last.next_star_line-end.ensures _ at_last.last_Line.ensures
+    advance-lines _ _ _ pre.0 pre.1 pre.2 _ at_last.next_star_line-end.ensures _ at_last.last_line-start.ensures
     c.if-start-at.false
     refl
 

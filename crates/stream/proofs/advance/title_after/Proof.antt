@@ -40,10 +40,10 @@ title-fits c =
     let x = part a.bytes.now a.from a.to in
     omega (arith, end c, trim_end-le x, part_length a.bytes.now a.from a.to c.requires.to)
 
-cast-result : tie.Need-overflow-cast-result
+cast-result : tie.Need-overflow_cast-result
 cast-result c = omega (arith, title-fits c.before.before, c.requires.total)
 
-add-result : tie.Need-overflow-add-result
+add-result : tie.Need-overflow_add-result
 add-result c =
     let pre = c.requires in
     omega (arith, title-fits c.before.before, pre.total, pre.line)

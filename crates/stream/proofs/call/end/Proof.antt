@@ -5,7 +5,6 @@ use Prim.Native.Nat.{◌≤◌}
 use native.Mathlib.Omega.{arith}
 use lib.ListN.{length}
 use borrow.Author.Rules.{rules}
-use borrow.Author.Tests.{not-true, not-false}
 use Rattle.stream.specs.State.{with_end}
 use Rattle.stream.specs.Steps.{last_heading}
 use Rattle.stream.specs.Spans.{headings_of}
@@ -19,18 +18,18 @@ use Rattle.stream.proofs.call.end.Tie as tie
 
 returns : tie.Need-returns-then-not-is_open
 returns c =
-    let o = sym c.is_open.ensures ∙ not-true _ c.if-not-is_open.true in
+    let o = sym c.is_open.ensures ∙ c.if-not-is_open.true in
     end-settled _ _ _ _ (answers c.answered.ensures (end-closed _ _ o))
 
 opened : (c : tie.Else-not-is_open) → is_open c.args.state ≡ true
-opened c = sym c.is_open.ensures ∙ not-false _ c.if-not-is_open.false
+opened c = sym c.is_open.ensures ∙ c.if-not-is_open.false
 
 heading-of-requires : tie.Need-heading_of-finished-requires
 heading-of-requires c κs = (tests _ (opened c)).line
 
 -- it is judged by the last line
 given : (c : tie.Else-not-is_open) → let a = c.args in
-    end a.state a.list-1.now ≡ handed_out a.state a.list-1.now (last_heading a.state) (with_end a.state)
+    end a.state a.list.now ≡ handed_out a.state a.list.now (last_heading a.state) (with_end a.state)
 given c = end-open _ _ (opened c)
 
 counted : (c : tie.After-count_of-count) → c.count_of-count.result ≡ length (last_heading c.args.state)
@@ -43,12 +42,12 @@ returns-2 c =
 
 -- what it gives has room in the list
 room-enough : (c : tie.Else-list-count) →
-    length (headings_of c.heading_of-finished.result) ≤ room c.args.list-1.now
+    length (headings_of c.heading_of-finished.result) ≤ room c.args.list.now
 room-enough c = omega (arith, c.if-list-count.false, c.count_of-count.ensures)
 
 put-requires : tie.Need-put-requires
 put-requires c κs =
-    let l = c.args.list-1.now in
+    let l = c.args.list.now in
     omega (arith, numbers-room (headings_of c.heading_of-finished.result) l (room-enough c.before))
 
 returns-3 : tie.Need-returns

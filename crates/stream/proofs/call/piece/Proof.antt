@@ -5,7 +5,6 @@ use Prim.Native.Nat.{◌+◌, ◌≤◌}
 use native.Mathlib.Omega.{arith}
 use lib.ListN.{length}
 use borrow.Author.Rules.{rules}
-use borrow.Author.Tests.{not-true, not-false}
 use Rattle.text.specs.Limits.{text_limit}
 use Rattle.stream.specs.Call.{is_open, room, handed_out, piece}
 use Rattle.stream.specs.Steps.{fed, finished}
@@ -19,14 +18,14 @@ use Rattle.stream.proofs.call.piece.Tie as tie
 
 returns : tie.Need-returns-then-not-is_open
 returns c =
-    let o = sym c.is_open.ensures ∙ not-true _ c.if-not-is_open.true in
+    let o = sym c.is_open.ensures ∙ c.if-not-is_open.true in
     settled _ _ _ _ _ (answers c.answered.ensures (piece-closed _ _ _ o))
 
 opened : (c : tie.Else-not-is_open) → is_open c.args.state ≡ true
-opened c = sym c.is_open.ensures ∙ not-false _ c.if-not-is_open.false
+opened c = sym c.is_open.ensures ∙ c.if-not-is_open.false
 
-sub-if2 : tie.Need-overflow-sub-if2
-sub-if2 c = (tests _ (opened c.before)).total
+sub-state : tie.Need-overflow_sub-state
+sub-state c = (tests _ (opened c.before)).total
 
 returns-2 : tie.Need-returns-then-state-bytes
 returns-2 c =
@@ -48,7 +47,7 @@ count-finished-requires c κs = within c
 
 -- it is judged by what it finishes
 given : (c : tie.Else-state-bytes) → let a = c.args in
-    piece a.state a.bytes.now a.list-1.now ≡ handed_out a.state a.list-1.now (finished a.state a.bytes.now) (fed a.state a.bytes.now)
+    piece a.state a.bytes.now a.list.now ≡ handed_out a.state a.list.now (finished a.state a.bytes.now) (fed a.state a.bytes.now)
 given c = piece-open _ _ _ (opened c.before.before) (fits c)
 
 returns-3 : tie.Need-returns-then-list-count
@@ -60,13 +59,13 @@ returns-3 c =
 
 -- what it finishes has room in the list
 room-enough : (c : tie.Else-list-count) → let a = c.args in
-    length (finished a.state a.bytes.now) ≤ room a.list-1.now
+    length (finished a.state a.bytes.now) ≤ room a.list.now
 room-enough c = omega (arith, c.if-list-count.false, c.count_finished-count.ensures)
 
 put-finished-requires : tie.Need-put_finished-requires
 put-finished-requires c κs =
     let a = c.args in
-    (within c.before.before.before, numbers-room (finished a.state a.bytes.now) a.list-1.now (room-enough c.before))
+    (within c.before.before.before, numbers-room (finished a.state a.bytes.now) a.list.now (room-enough c.before))
 
 returns-4 : tie.Need-returns
 returns-4 c =
@@ -85,7 +84,7 @@ piece_spec =
     (λ c κs. search rules)
     returns
     (λ c. search rules)
-    sub-if2
+    sub-state
     (λ c κs. search rules)
     returns-2
     count-finished-requires

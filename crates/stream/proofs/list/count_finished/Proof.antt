@@ -29,7 +29,7 @@ counted c =
     let r = c.advance-next.result in
     omega (arith, c.count_of-n.ensures, finished-one r.finished, c.advance-next.ensures.further, c.loop-at.invariant.1)
 
-add-n : tie.Need-overflow-add-n invariant-loop-at decreases-loop-at
+add-n : tie.Need-overflow_add-n invariant-loop-at decreases-loop-at
 add-n c = omega (arith, counted c, c.advance-next.ensures.inside)
 
 loop-less : tie.Need-loop-at-smaller invariant-loop-at decreases-loop-at
@@ -41,7 +41,7 @@ loop-again c =
     let a = at-advance.advance-next.ensures in
     let l = at-advance.loop-at in
     let r = at-advance.advance-next.result in
-    let rest = finished r.state (drop r.at at-advance.args.bytes.now-1) in (
+    let rest = finished r.state (drop r.at at-advance.args.bytes.now) in (
       a.inside,
       counted c.before,
       a.within,
@@ -52,7 +52,7 @@ returns : tie.Need-returns invariant-loop-at decreases-loop-at
 unfolding finished
 returns c =
     let l = c.loop-at in
-    let none = drop_of_length-le c.args.bytes.now-1 c.loop-at-test.false in
+    let none = drop_of_length-le c.args.bytes.now c.loop-at-test.false in
     omega (arith, rw none at l.invariant.3)
 
 pub count_finished_spec : {M : Type 1} → statement M

@@ -33,14 +33,14 @@ advance-requires c κs = (c.loop-at.invariant.1, c.loop-at-test.true)
 -- what is left to write: what the bytes up to the next finish, and what those after them do
 left : (c : tie.After-advance-next invariant-loop-at decreases-loop-at) →
     let l = c.loop-at in
-    let x = c.args.bytes.now-1 in
+    let x = c.args.bytes.now in
     let r = c.advance-next.result in
     let rest = numbers (finished r.state (drop r.at x)) in
-    (numbers (finished l.now-1 (drop l.at x)) ≡ numbers (headings_of r.finished) ++ rest)
-    × (l.to + length (numbers (headings_of r.finished)) + length rest ≤ length l.list-1)
+    (numbers (finished l.now (drop l.at x)) ≡ numbers (headings_of r.finished) ++ rest)
+    × (l.to + length (numbers (headings_of r.finished)) + length rest ≤ length l.list)
 left c =
     let l = c.loop-at in
-    let x = c.args.bytes.now-1 in
+    let x = c.args.bytes.now in
     let r = c.advance-next.result in
     let rest = finished r.state (drop r.at x) in
     let e = ap numbers c.advance-next.ensures.headings ∙ numbers-append (headings_of r.finished) rest in
@@ -58,18 +58,18 @@ loop-again c =
     let at-advance = at-put.before.before in
     let a = at-advance.advance-next.ensures in
     let l = at-advance.loop-at in
-    let x = at-advance.args.bytes.now-1 in
+    let x = at-advance.args.bytes.now in
     let r = at-advance.advance-next.result in
     let rest = numbers (finished r.state (drop r.at x)) in
     let f = left at-advance in
-    let kept = at-put.put-to.auto.0 in
+    let kept = at-put.put-to.auto.list in
     let put = at-put.put-to.ensures in (
       a.inside,
       a.within,
       kept ∙ l.invariant.2,
       omega (arith, f.1, kept, put.0),
       sym a.state ∙ l.invariant.4,
-      rw (put.0, put.1) (sym (sets-append l.list-1 l.to (numbers (headings_of r.finished)) rest) ∙ rw f.0 at l.invariant.5),
+      rw (put.0, put.1) (sym (sets-append l.list l.to (numbers (headings_of r.finished)) rest) ∙ rw f.0 at l.invariant.5),
     )
 
 same_length : tie.Need-shape_of-list invariant-loop-at decreases-loop-at
@@ -79,7 +79,7 @@ returns : tie.Need-returns invariant-loop-at decreases-loop-at
 unfolding finished fed numbers
 returns c =
     let l = c.loop-at in
-    let none = drop_of_length-le c.args.bytes.now-1 c.loop-at-test.false in
+    let none = drop_of_length-le c.args.bytes.now c.loop-at-test.false in
     (rw none at l.invariant.4, rw none at l.invariant.5)
 
 pub put_finished_spec : {M : Type 1} → statement M

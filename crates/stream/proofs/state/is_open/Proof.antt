@@ -63,7 +63,7 @@ returns-3 c = outside _ c.if-state-ne0.false c.if-state-gt-TEXT.false c.if-state
 heading : (c : tie.Then-in_heading) → in_heading c.args.state ≡ true
 heading c = sym c.in_heading.ensures ∙ c.if-in_heading.true
 
-sub-result : tie.Need-overflow-sub-result
+sub-result : tie.Need-overflow_sub-result
 sub-result c = heading-le _ (heading c.before)
 
 returns-4 : tie.Need-returns-then-in_heading

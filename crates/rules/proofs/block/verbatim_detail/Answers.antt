@@ -1,0 +1,31 @@
+-- `rules::block::verbatim_detail` meets its contract: name by name, the tests on the way say which is the first that fits.
+-- Assumes nothing.
+use Rattle.std.proofs.Common.{sym, ◌∙◌}
+use Rattle.text.specs.Runs.{word}
+use Rattle.rules.specs.Names.{number_in}
+use Rattle.rules.specs.Elements.{verbatim_names}
+use Rattle.rules.proofs.block.verbatim_detail.Goals as goal
+
+pub returns-then-is_word : goal.returns-then-is_word
+unfolding verbatim_names word number_in
+returns-then-is_word c = rw (sym c.is_word.ensures ∙ c.if-is_word.true, number_in)
+
+pub returns-then-is_word-2 : goal.returns-then-is_word-2
+unfolding verbatim_names word number_in
+returns-then-is_word-2 c = rw (sym c.is_word.ensures ∙ c.if-is_word.false, sym c.is_word-2.ensures ∙ c.if-is_word-2.true, number_in)
+
+pub returns-then-is_word-3 : goal.returns-then-is_word-3
+unfolding verbatim_names word number_in
+returns-then-is_word-3 c = rw (sym c.is_word.ensures ∙ c.if-is_word.false, sym c.is_word-2.ensures ∙ c.if-is_word-2.false, sym c.is_word-3.ensures ∙ c.if-is_word-3.true, number_in)
+
+pub returns-then-is_word-4 : goal.returns-then-is_word-4
+unfolding verbatim_names word number_in
+returns-then-is_word-4 c = rw (sym c.is_word.ensures ∙ c.if-is_word.false, sym c.is_word-2.ensures ∙ c.if-is_word-2.false, sym c.is_word-3.ensures ∙ c.if-is_word-3.false, sym c.is_word-4.ensures ∙ c.if-is_word-4.true, number_in)
+
+pub returns-then-is_word-5 : goal.returns-then-is_word-5
+unfolding verbatim_names word number_in
+returns-then-is_word-5 c = rw (sym c.is_word.ensures ∙ c.if-is_word.false, sym c.is_word-2.ensures ∙ c.if-is_word-2.false, sym c.is_word-3.ensures ∙ c.if-is_word-3.false, sym c.is_word-4.ensures ∙ c.if-is_word-4.false, sym c.is_word-5.ensures ∙ c.if-is_word-5.true, number_in)
+
+pub returns : goal.returns
+unfolding verbatim_names word number_in
+returns c = rw (sym c.is_word.ensures ∙ c.if-is_word.false, sym c.is_word-2.ensures ∙ c.if-is_word-2.false, sym c.is_word-3.ensures ∙ c.if-is_word-3.false, sym c.is_word-4.ensures ∙ c.if-is_word-4.false, sym c.is_word-5.ensures ∙ c.if-is_word-5.false, number_in)

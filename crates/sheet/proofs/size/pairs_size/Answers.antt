@@ -1,0 +1,32 @@
+-- `sheet::size::pairs_size` meets its contract: the lines left are the next pair's and the others.
+use mathlib.Core.Path.{ap}
+use Prim.Native.Nat.{◌-◌}
+use native.Mathlib.Omega.{arith}
+use lib.ListN.{length, length-append}
+use Rattle.sheet.specs.Sheet.{pair_line, pair_lines, join}
+use Rattle.sheet.specs.Spans.{pair_of, pairs_at}
+use Rattle.sheet.proofs.Laws.Pairs.{pairs_first, pairs-left}
+use Rattle.sheet.proofs.Laws.Sizes.{lines_none, lines_step}
+use Rattle.sheet.proofs.size.pairs_size.Goals as goal
+
+pub pair_at-pair-requires : goal.pair_at-pair-requires
+pair_at-pair-requires c = pairs_first _ _ _ c.loop-n.invariant.0 c.loop-n-test.true
+
+pub loop-n-preserved : goal.loop-n-preserved
+loop-n-preserved c =
+    let l = c.loop-n in
+    let x = c.args.buffer.now in
+    let r = c.pair_at-pair.result in
+    let step = lines_step x l.at l.n l.invariant.0 c.loop-n-test.true r c.pair_at-pair.ensures in
+    let more = length-append (pair_line (pair_of x r)) (join (pair_lines (pairs_at x r.end (l.n - 1)))) in (
+      pairs-left _ _ _ l.invariant.0 c.loop-n-test.true _ c.pair_at-pair.ensures,
+      omega arith,
+      omega arith,
+      omega arith,
+      omega (arith, ap length step, more),
+    )
+
+pub returns : goal.returns
+returns c =
+    let l = c.loop-n in
+    (omega (arith, ap length (lines_none c.args.buffer.now l.at l.n c.loop-n-test.false)), omega arith)
