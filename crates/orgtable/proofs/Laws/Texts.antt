@@ -6,7 +6,7 @@ use native.Mathlib.Omega.{arith}
 use lib.ListN.{length, take, replicate}
 use Rattle.std.proofs.lemmas.List.{length-replicate}
 use borrow.Author.Tests.{lt-leb}
-use Rattle.std.specs.Prelude.{Ok, Err, Some, None, Result}
+use Rattle.std.specs.Prelude.{Err, Some, None, Result}
 use Rattle.std.specs.Io.KnownBytes.{Keeps}
 use Rattle.core.specs.declared.option.Option.{Option}
 use Rattle.text.specs.Limits.{text_limit}
@@ -17,7 +17,7 @@ use Rattle.orgtable.specs.declared.input.Input.{Input}
 use Rattle.orgtable.specs.declared.input.Input.TheVariants.{Bytes, TooLong, Failed}
 use Rattle.orgtable.specs.Input.{InputHolds, printed_input}
 use Rattle.orgtable.specs.Printed.{refused, printed_text}
-use Rattle.orgtable.specs.Output.{IsPrinted, printed_table, PrintsTable}
+use Rattle.orgtable.specs.Output.{IsPrinted, PrintsTable}
 
 keeps : (a : Option (List ℕ)) → Keeps a a
 keeps None = tt

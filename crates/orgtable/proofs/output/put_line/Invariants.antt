@@ -1,6 +1,6 @@
 -- The loop of `orgtable::output::put_line`: the bytes in use, followed by the line of the numbers from `i` on, are those asked for, and each of these
 -- numbers has 11 bytes left. The measure is these numbers.
-use Rattle.std.proofs.Common.{length, take, ◌≡◌, ◌++◌, ◌+◌, ◌-◌, ◌*◌, ◌≤◌}
+use Rattle.std.proofs.Common.{take, ◌≡◌, ◌++◌, ◌+◌, ◌-◌, ◌*◌, ◌≤◌}
 use Rattle.std.proofs.Math.Seq.{slice}
 use Rattle.table.specs.Records.{record_size, line_place}
 use Rattle.orgtable.specs.Printed.{line, cell_size, line_size}
