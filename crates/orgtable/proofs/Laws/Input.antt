@@ -81,7 +81,7 @@ take-moved b p i j k used moved =
     let all = take-put_mid i j b p (i + length p) refl used in
     let front : length (take i b) ≡ i = length-take-le i b used in
     sym (take-take (i + k) (i + length p) (put_mid i j b p) (omega arith)) ∙ ap (take (i + k)) all
-        ∙ ap (λ n. take (n + k) (take i b ++ p)) (sym front) ∙ take-append-add (take i b) p k
+    ∙ ap (λ n. take (n + k) (take i b ++ p)) (sym front) ∙ take-append-add (take i b) p k
 
 holds : (s : Step) (all left after : Option (List ℕ)) (i : ℕ) (b p : List ℕ) → i ≤ length b → ((k : ℕ) → s ≡ More k → length b ≤ i)
     → 0 < length p → Consumes all left (take i b) → StepWithin s (length p) → StepReads s left after p → InputHolds (input_of s i) all b

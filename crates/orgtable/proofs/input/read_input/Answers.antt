@@ -28,7 +28,7 @@ loop-used-smaller g c = let f = more_within _ _ _ c.in-More.is c.read_step-step.
 
 pub loop-used-preserved : goal.loop-used-preserved
 unfolding StepReads
-loop-used-preserved g c = 
+loop-used-preserved g c =
     let read = c.read_step-step in
     let at = c.loop-used in
     let f = more_within _ _ _ c.in-More.is c.read_step-step.ensures.within in
