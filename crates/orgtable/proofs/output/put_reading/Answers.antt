@@ -1,0 +1,8 @@
+-- `orgtable::output::put_reading` meets its contract, by what `read` promises. From Answers.
+-- Assumes nothing.
+use Rattle.std.proofs.Common.{◌∙◌}
+use Rattle.orgtable.proofs.Laws.Answers.{settled-printed}
+use Rattle.orgtable.proofs.output.put_reading.Goals as goal
+
+pub returns-clause-out_after : goal.returns-clause-out_after
+returns-clause-out_after c = c.put_answer.ensures.out_after ∙ settled-printed _ _ _ _ c.read-answer.ensures
