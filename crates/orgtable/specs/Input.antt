@@ -2,7 +2,7 @@
 -- whose bytes are known, as one over memory, these say that they are the ones in use.
 use Rattle.std.specs.Prelude.{List, [], ◌∷◌, ℕ, zero, suc, ◌≡◌, ◌≤◌, ◌<◌, ⊤, min, length, take, Some, None, Ok, Err, Result}
 use Rattle.std.specs.Io.KnownBytes.{Consumes, IsAtEnd}
-use Rattle.core.specs.declared.option.Option.{Option}
+use Rattle.std.specs.declared.option.Option.{Option}
 use Rattle.orgtable.specs.Printed.{refused, printed_text}
 use Rattle.orgtable.specs.declared.input.Step.{Step}
 use Rattle.orgtable.specs.declared.input.Step.TheVariants.{More, End, Failed as ReadFailed}

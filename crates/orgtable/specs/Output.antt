@@ -1,7 +1,7 @@
 -- What the program's answer says of the bytes that it was to print.
 use Rattle.std.specs.Prelude.{List, ℕ, ◌<◌, length, take, replicate, Some, None, Ok, Err, Result}
 use Rattle.std.specs.Io.KnownBytes.{Keeps, Appends}
-use Rattle.core.specs.declared.option.Option.{Option}
+use Rattle.std.specs.declared.option.Option.{Option}
 use Rattle.orgtable.specs.Printed.{printed_text}
 use Rattle.orgtable.specs.declared.trouble.Trouble.{Trouble}
 use Rattle.orgtable.specs.declared.trouble.Trouble.TheVariants.{Argument, Unread, Unwritten}

@@ -12,7 +12,7 @@ use Rattle.std.specs.Io.{ReadsAtMost}
 use Rattle.std.specs.Io.KnownBytes.{Consumes, IsAtEnd, ReadConsumes}
 use Rattle.std.proofs.lemmas.List.{length-drop}
 use Rattle.std.proofs.lemmas.Slice.{take-put_mid}
-use Rattle.core.specs.declared.option.Option.{Option}
+use Rattle.std.specs.declared.option.Option.{Option}
 use Rattle.orgtable.specs.declared.input.Step.{Step}
 use Rattle.orgtable.specs.declared.input.Step.TheVariants.{More, End, Failed as ReadFailed}
 use Rattle.orgtable.specs.declared.input.Input.{Input}

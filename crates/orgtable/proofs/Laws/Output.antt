@@ -6,7 +6,7 @@ use lib.ListN.{length, take, drop}
 use lib.Seq.{take_all, take-take, take-add}
 use Rattle.std.specs.Prelude.{Ok, Err, Some, None}
 use Rattle.std.specs.Io.KnownBytes.{Keeps, Appends}
-use Rattle.core.specs.declared.option.Option.{Option}
+use Rattle.std.specs.declared.option.Option.{Option}
 use Rattle.orgtable.specs.declared.trouble.Trouble.TheVariants.{Unwritten}
 use Rattle.orgtable.specs.Output.{IsPrinted}
 use Rattle.orgtable.proofs.Laws.Input.{length-rest}

@@ -8,7 +8,7 @@ use Rattle.std.proofs.lemmas.List.{length-replicate}
 use borrow.Author.Tests.{lt-leb}
 use Rattle.std.specs.Prelude.{Err, Some, None, Result}
 use Rattle.std.specs.Io.KnownBytes.{Keeps}
-use Rattle.core.specs.declared.option.Option.{Option}
+use Rattle.std.specs.declared.option.Option.{Option}
 use Rattle.text.specs.Limits.{text_limit}
 use Rattle.reading.specs.Answers.{answer, answer_for}
 use Rattle.orgtable.specs.declared.trouble.Trouble.{Trouble}
