@@ -15,7 +15,7 @@ use std::rt::Env;
 use trouble::Trouble;
 use usage::{Request, print_usage, request_of};
 
-// Reads a text to its end and prints what is printed for it, read into an empty table of 16,384 numbers.
+// Reads a text to its end and prints its table, or the refusal; where it cannot be read, nothing.
 pub fn print_table<R: Read, W: Write>(from: &mut R, to: &mut W) -> Result<(), Trouble>
     ensures { PrintsTable result (R.remaining from.old) (W.contents to.old) (W.contents to.new) }
 {
