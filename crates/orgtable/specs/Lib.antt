@@ -1,4 +1,5 @@
 pub mod Printed
 pub mod Input
+pub mod Output
 pub mod Samples
 pub mod Pinned

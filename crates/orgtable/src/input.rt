@@ -1,6 +1,9 @@
-// Standard input, read into a buffer to its end. A read that failed is not its end.
+// An input, read into a buffer to its end. A read that failed is not its end.
 ghost use Rattle.std.specs.Prelude.{◌≡◌, length};
-ghost use Rattle.orgtable.specs.Input.{step_of, input_of, StepWithin, InputWithin};
+ghost use Rattle.orgtable.specs.Input.{step_of, input_of, StepWithin, StepReads, InputWithin, InputHolds};
+
+use std::io;
+use std::io::Read;
 
 // What one read came to.
 #[derive(Clone, Copy)]
@@ -19,24 +22,25 @@ pub enum Input {
 }
 
 // What the answer of a read into some bytes means.
-fn step_of(got: isize, part: &[u8]) -> Step
+fn step_of(got: io::Result<usize>, part: &[u8]) -> Step
     ensures { result ≡ step_of got (length part.now) }
 {
-    if got < 0 {
+    let Ok(moved) = got else {
         return Step::Failed;
-    }
-    let count = io::count(got, part);
+    };
+    let count = moved.min(part.len());
     if count == 0 {
         return Step::End;
     }
     Step::More(count)
 }
 
-// One read. The program catches no signal, so none interrupts it: any -1 is a failed read.
-fn read_step(fd: i32, part: &mut [u8]) -> Step
-    ensures { StepWithin result (length part.old) }
+// One read. The program catches no signal, so none interrupts it: any error is a failed read.
+fn read_step<R: Read>(reader: &mut R, part: &mut [u8]) -> Step
+    ensures within { StepWithin result (length part.old) }
+    ensures bytes { StepReads result (R.remaining reader.old) (R.remaining reader.new) part.new }
 {
-    let got = libc::read(fd, part);
+    let got = reader.read(part);
     step_of(got, part)
 }
 
@@ -52,18 +56,20 @@ fn input_of(step: Step, used: usize) -> Input
 }
 
 // Reads until the input ends, the buffer is full or a read fails; a full one, if the input then ends.
-pub fn read_input(fd: i32, buffer: &mut [u8]) -> Input
-    ensures { InputWithin result (length buffer.old) }
+// Of a reader whose bytes are known, the bytes in use are all of them.
+pub fn read_input<R: Read>(reader: &mut R, buffer: &mut [u8]) -> Input
+    ensures within { InputWithin result (length buffer.old) }
+    ensures bytes { InputHolds result (R.remaining reader.old) buffer.new }
 {
     let mut used = 0;
     while used < buffer.len() {
-        let step = read_step(fd, &mut buffer[used..]);
+        let step = read_step(reader, &mut buffer[used..]);
         let Step::More(count) = step else {
             return input_of(step, used);
         };
         used += count;
     }
     let mut further = [0u8; 1];
-    let past = read_step(fd, &mut further);
+    let past = read_step(reader, &mut further);
     input_of(past, used)
 }

@@ -3,24 +3,44 @@
 
 mod input;
 mod output;
+mod trouble;
 mod usage;
 
-use input::{Input, read_input};
-use libc::STDIN_FILENO;
-use output::{complain, print_input};
-use usage::print_usage;
+ghost use Rattle.orgtable.specs.Output.{PrintsTable};
 
-fn main() {
-    if 1 < os::arg_count() {
-        print_usage();
-        return;
-    }
+use input::{Input, read_input};
+use output::print_input;
+use std::io::{Read, Write};
+use std::rt::Env;
+use trouble::Trouble;
+use usage::{Request, print_usage, request_of};
+
+// Reads a text to its end and prints its table, or the refusal; where it cannot be read, nothing.
+pub fn print_table<R: Read, W: Write>(from: &mut R, to: &mut W) -> Result<(), Trouble>
+    ensures { PrintsTable result (R.remaining from.old) (W.contents to.old) (W.contents to.new) }
+{
     let mut buffer = [0u8; 65536];
     let mut table = [0u32; 16384];
-    let input = read_input(STDIN_FILENO, &mut buffer);
+    let input = read_input(from, &mut buffer);
     if let Input::Failed = input {
-        complain(b"orgtable: standard input could not be read, so no table is printed\n");
-        return;
+        return Err(Trouble::Unread);
     }
-    print_input(input, &buffer, &mut table);
+    print_input(to, input, &buffer, &mut table)
+}
+
+// Does what the argument asks for.
+fn run(env: &impl Env, from: &mut impl Read, to: &mut impl Write) -> Result<(), Trouble> {
+    match request_of(env) {
+        Request::Table => print_table(from, to),
+        Request::Help => print_usage(to),
+        Request::Other => Err(Trouble::Argument),
+    }
+}
+
+fn main(rt: HostRuntime) {
+    let done = run(&rt, &mut rt.stdin(), &mut rt.stdout());
+    if let Err(trouble) = done {
+        // Where that fails there is nobody left to tell.
+        let _ = rt.eprintln(trouble);
+    }
 }

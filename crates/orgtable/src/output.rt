@@ -5,12 +5,14 @@ ghost use Rattle.text.specs.Limits.{text_limit};
 ghost use Rattle.table.specs.Records.{record_size};
 ghost use Rattle.reading.specs.Answers.{number, count};
 ghost use Rattle.orgtable.specs.Input.{InputWithin, printed_input};
+ghost use Rattle.orgtable.specs.Output.{IsPrinted};
 ghost use Rattle.orgtable.specs.Printed.{decimal, line, record_lines, refused, printed, printed_text, shown, cell_size, line_size};
 
 use crate::input::Input;
-use libc::{STDERR_FILENO, STDOUT_FILENO};
+use crate::trouble::Trouble;
 use reading::answer::Answer;
 use reading::read::read;
+use std::io::Write;
 use table::record;
 use text::number;
 
@@ -39,15 +41,17 @@ fn put_all(out: &mut [u8], used: usize, bytes: &[u8]) -> usize
     at
 }
 
-// The digits of a number.
+// The digits of a number: those of its tenth, and the last.
 fn put_number(out: &mut [u8], used: usize, n: u64) -> usize
     requires { used + length (decimal n) ≤ length out.old }
     ensures out_after { take result out.new ≡ take used out.old ++ decimal n }
     ensures value { result ≡ used + length (decimal n) }
 {
-    let mut digits = [0u8; 20];
-    let size = io::decimal(n, &mut digits);
-    put_all(out, used, &digits[..size])
+    if n < 10 {
+        return put(out, used, b'0' + n as u8);
+    }
+    let end = put_number(out, used, n / 10);
+    put(out, end, b'0' + (n % 10) as u8)
 }
 
 // A number of a table and the byte after it: at most 11 bytes.
@@ -161,25 +165,37 @@ fn put_input(out: &mut [u8], input: Input, buffer: &[u8], table: &mut [u32]) -> 
     }
 }
 
-// A line to standard error. Where that fails there is nobody left to tell.
-pub fn complain(line: &[u8]) {
-    io::write_all(STDERR_FILENO, line);
-}
-
-// Writes to standard output in one piece, or says that it could not.
-pub fn print(bytes: &[u8]) {
-    if !io::write_all(STDOUT_FILENO, bytes) {
-        complain(b"orgtable: standard output could not be written whole\n");
+// Writes the bytes, or a part of them from the front where a write takes nothing or fails. The program
+// catches no signal, so none interrupts a write: any error is a failed one.
+pub fn print<W: Write>(to: &mut W, bytes: &[u8]) -> Result<(), Trouble>
+    ensures { IsPrinted result (W.contents to.old) (W.contents to.new) bytes.now }
+{
+    let mut done = 0;
+    while done < bytes.len() {
+        let Ok(count) = to.write(&bytes[done..]) else {
+            return Err(Trouble::Unwritten);
+        };
+        if count == 0 {
+            return Err(Trouble::Unwritten);
+        }
+        done += count;
     }
+    Ok(())
 }
 
 // Prints what is printed for what standard input came to, read into a table of 16,384 numbers.  [01 "What the reader covers"]
-pub fn print_input(input: Input, buffer: &[u8], table: &mut [u32])
+pub fn print_input<W: Write>(
+    to: &mut W,
+    input: Input,
+    buffer: &[u8],
+    table: &mut [u32],
+) -> Result<(), Trouble>
     requires input_within { InputWithin input (length buffer.now) }
     requires buffer_len { length buffer.now ≡ text_limit }
     requires table_len { length table.old ≡ 16384 }
+    ensures { IsPrinted result (W.contents to.old) (W.contents to.new) (printed_input input buffer.now table.old) }
 {
     let mut out = [0u8; 180224];
     let used = put_input(&mut out, input, buffer, table);
-    print(&out[..used]);
+    print(to, &out[..used])
 }

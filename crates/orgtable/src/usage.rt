@@ -1,21 +1,39 @@
 // The program's arguments: `--help`, and no other.
-use crate::output::{complain, print};
+use crate::output::print;
+use crate::trouble::Trouble;
+use std::env::FillError;
+use std::io::Write;
+use std::rt::Env;
 use text::word::is_word;
 
-// Whether the first argument is `--help`. A longer one does not fit and counts 0 bytes.
-fn asks_for_help() -> bool {
-    let mut word = [0u8; 6];
-    let size = os::arg(1, &mut word);
-    is_word(&word, 0, size, b"--help")
+// What the program is asked for.
+#[derive(Clone, Copy)]
+pub enum Request {
+    Table,
+    Help,
+    Other,
 }
 
-// Prints how the program is used, or says that it takes no argument.
-pub fn print_usage() {
-    if !asks_for_help() {
-        complain(b"orgtable: takes no file name; use: orgtable < BOOK\n");
-        return;
+// The request of the first argument, or of none. A longer one than `--help` does not fit.
+pub fn request_of(env: &impl Env) -> Request {
+    let mut word = [0u8; 6];
+    match env.arg(1, &mut word) {
+        Err(FillError::NotPresent) => Request::Table,
+        Err(FillError::TooLong) => Request::Other,
+        Ok(size) => {
+            if is_word(&word, 0, size, b"--help") {
+                Request::Help
+            } else {
+                Request::Other
+            }
+        }
     }
+}
+
+// Prints how the program is used.
+pub fn print_usage(to: &mut impl Write) -> Result<(), Trouble> {
     print(
+        to,
         b"use: orgtable < BOOK
 Prints the table of an Org text of at most 65,536 bytes, a line of eight numbers for each part:
   kind, start, end, inner start, inner end, the parent's place in this table, detail, line of the text
@@ -28,5 +46,5 @@ Starts and ends are bytes of the text; an end is one past the last. Places and l
 Or one line: refused 1 (text too long), refused 2 (nested over 32 deep), refused 3 N (N records, over 2,048).
 Where reading or writing fails, a line on standard error says so.
 ",
-    );
+    )
 }

@@ -1,13 +1,11 @@
--- The digits that `io::decimal` makes are the number's, and a number below a power of ten has no more digits than that.
+-- A number's digits are those of its tenth and one more, and a number below a power of ten has no more digits than that.
 -- By induction on how many there are. Assumes nothing.
-use mathlib.Core.Path.{◌≡◌, refl}
-use mathlib.Core.List.{[], ◌∷◌, ◌++◌}
-use Prim.Native.Nat.{ℕ, zero, suc, ◌-◌, ◌/◌, ◌%◌, ◌^◌, ◌≤◌, ◌<◌}
-use native.Mathlib.Nat.{mod-eq_of_lt, mod-lt}
+use mathlib.Core.Path.{◌≡◌, refl, sym, ◌∙◌}
+use mathlib.Core.List.{List, [], ◌∷◌, ◌++◌, append_assoc}
+use Prim.Native.Nat.{ℕ, zero, suc, ◌/◌, ◌%◌, ◌^◌, ◌≤◌, ◌<◌}
 use native.Mathlib.Omega.{arith}
 use lib.ListN.{length, length-append}
 use borrow.Author.Tests.{lt-ltb, le-ltb}
-use Rattle.io.specs.Digits.{last_digits, hex_digit_ascii, IsDigitCount}
 use Rattle.table.proofs.Basics.{split}
 use Rattle.orgtable.specs.Printed.{digit, digits_up_to, decimal}
 
@@ -20,33 +18,23 @@ digits_more : (k n : ℕ) → 10 ≤ n → digits_up_to (suc k) n ≡ digits_up_
 unfolding digits_up_to
 digits_more k n h = rw (le-ltb n 10 h, digits_up_to)
 
-glyph-digit : (n : ℕ) → hex_digit_ascii (n % 10) ≡ digit (n % 10)
-glyph-digit n = rw (lt-ltb (n % 10) 10 (mod-lt n (omega arith)))
+-- Room for more digits changes nothing.
+digits-room : (k m n : ℕ) → n ≤ k → n ≤ m → digits_up_to k n ≡ digits_up_to m n
+digits-room zero m n h l = digits-here zero n (omega arith) ∙ sym (digits-here m n (omega arith))
+digits-room (suc k) zero n h l = digits-here (suc k) n (omega arith) ∙ sym (digits-here zero n (omega arith))
+digits-room (suc k) (suc m) n h l =
+    split n 10
+    (λ few. digits-here (suc k) n few ∙ sym (digits-here (suc m) n few))
+    (λ many. rw (digits_more k n many, digits_more m n many, digits-room k m (n / 10) (omega arith) (omega arith)))
 
-fewest-above : (k n : ℕ) → IsDigitCount 10 1 n (suc (suc k)) → 10 ^ suc k ≤ n
-fewest-above k n f =
-    let e : suc (suc k) - 1 ≡ suc k = omega arith in
-    rw e at (f.2 (omega arith))
-
-fewest-rest : (k n : ℕ) → IsDigitCount 10 1 n (suc (suc k)) → IsDigitCount 10 1 (n / 10) (suc k)
-fewest-rest k n f =
-    let p = fewest-above k n f in
-    let e : suc k - 1 ≡ k = omega arith in
-    (omega arith, omega arith, λ l. rw e (omega arith))
-
-digits-fewest : (r k n : ℕ) → n ≤ k → IsDigitCount 10 1 n r → last_digits 10 r n ≡ digits_up_to k n
-digits-fewest zero k n h f = absurd (omega arith)
-digits-fewest (suc zero) k n h f =
-    let l : n < 10 = omega arith in
-    rw (glyph-digit n, digits-here k n l, mod-eq_of_lt l)
-digits-fewest (suc (suc r)) zero n h f = absurd (omega (arith, fewest-above r n f))
-digits-fewest (suc (suc r)) (suc k) n h f =
-    let p = fewest-above r n f in
-    rw (glyph-digit n, digits_more k n (omega arith), digits-fewest (suc r) k (n / 10) (omega arith) (fewest-rest r n f))
-
-pub decimal-fewest : (n r : ℕ) → IsDigitCount 10 1 n r → last_digits 10 r n ≡ decimal n
+pub decimal-one : (n : ℕ) → n < 10 → decimal n ≡ digit n ∷ []
 unfolding decimal
-decimal-fewest n r f = digits-fewest r n n (omega arith) f
+decimal-one n h = digits-here n n h
+
+pub decimal-more : (n : ℕ) → 10 ≤ n → decimal n ≡ decimal (n / 10) ++ digit (n % 10) ∷ []
+unfolding decimal
+decimal-more n h =
+    rw (digits-room n (suc n) n (omega arith) (omega arith), digits_more n n h, digits-room n (n / 10) (n / 10) (omega arith) (omega arith))
 
 digits-length : (m k n : ℕ) → n < 10 ^ suc m → length (digits_up_to k n) ≤ suc m
 unfolding digits_up_to
@@ -60,3 +48,7 @@ digits-length (suc m) (suc k) n h =
 pub decimal-length : (m n : ℕ) → n < 10 ^ suc m → length (decimal n) ≤ suc m
 unfolding decimal
 decimal-length m n h = digits-length m n n h
+
+-- of a number n, the digits of its tenth are put after w; x₁ with its last
+pub decimal-turn : (n : ℕ) (w x x₁ : List ℕ) → 10 ≤ n → x ≡ w ++ decimal (n / 10) → x₁ ≡ x ++ digit (n % 10) ∷ [] → x₁ ≡ w ++ decimal n
+decimal-turn n w x x₁ h tenth last = rw (last, tenth, decimal-more n h) (append_assoc w (decimal (n / 10)) (digit (n % 10) ∷ []))

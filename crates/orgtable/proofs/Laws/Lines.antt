@@ -5,16 +5,12 @@ use mathlib.Core.List.{List, [], ◌∷◌, ◌++◌, append_assoc, append-nil}
 use Prim.Native.Nat.{ℕ, suc, ◌+◌, ◌-◌, ◌*◌, ◌≤◌, ◌<◌}
 use native.Mathlib.Numerals.{add-one}
 use native.Mathlib.Omega.{arith}
-use lib.ListN.{length, take, drop, get_or}
-use lib.Seq.{take-suc, slice, slice-cons, slice_empty, drop-drop}
+use lib.ListN.{length, drop, get_or}
+use lib.Seq.{slice, slice-cons, slice_empty, drop-drop}
 use Rattle.table.specs.Records.{record_size}
 use Rattle.text.proofs.Basics.{take-drop}
 use Rattle.text.specs.Runs.{word}
 use Rattle.orgtable.specs.Printed.{newline, space, decimal, line, record_lines, refused}
-
--- of some bytes, the first i are put after w; x₁ with one more
-pub bytes-turn : (bytes w x x₁ : List ℕ) (i : ℕ) → i < length bytes → x ≡ w ++ take i bytes → x₁ ≡ x ++ get_or bytes i 0 ∷ [] → x₁ ≡ w ++ take (i + 1) bytes
-bytes-turn bytes w x x₁ i h all one = rw (one, all, add-one, take-suc bytes i 0) (append_assoc w (take i bytes) (get_or bytes i 0 ∷ []))
 
 line-more : (t : List ℕ) (i e : ℕ) → suc i < e → e ≤ length t → line (slice i e t) ≡ decimal (get_or t i 0) ++ space ∷ line (slice (suc i) e t)
 unfolding line

@@ -150,8 +150,8 @@ module _ (f : Record → Bool) where
           is = c.is;
           passes = c.passes;
           before = λ n. elim n as (λ n. n < suc c.index → ChildAt (r ∷ X) q n → f (at (r ∷ X) n) ≡ false) [
-            zero ↦ λ b. h |
-            suc m ↦ λ b d. c.before m (omega arith) (child_at-before d)
+            | zero ↦ λ b. h
+            | suc m ↦ λ b d. c.before m (omega arith) (child_at-before d)
           ];
         }
 

@@ -1,0 +1,11 @@
+-- `orgtable::print_table` meets its contract: the bytes in use are the text, and a longer text than the buffer is refused. From Texts.
+-- Assumes nothing.
+use Rattle.orgtable.proofs.Laws.Texts.{unread, printed-whole}
+use Rattle.orgtable.proofs.print_table.Goals as goal
+
+pub returns-in-Failed : goal.returns-in-Failed
+returns-in-Failed g c = unread _ _
+
+pub returns : goal.returns
+returns g c =
+    printed-whole _ _ _ _ _ _ c.read_input-input.auto.buffer c.in_default.not-Failed c.read_input-input.ensures.bytes c.print_input.ensures
