@@ -1,5 +1,6 @@
 -- `dates::repeats::read_repeater` meets its contract, stage by stage.
 -- Assumes nothing.
+use mathlib.Core.Path.{refl}
 use Rattle.std.proofs.Common.{arith}
 use Rattle.dates.specs.Stamps.{repeater}
 use Rattle.dates.proofs.repeats.read_repeater.Goals as goal
@@ -39,4 +40,4 @@ returns c =
     let a = c.in_default.ensures in
     let b = c.in-At-read_delay-2.ensures in
     let c = c.in-At-read_repeat.ensures in
-    record { is = rw (a.is, b.is, c.is); from = omega arith; to = omega arith }
+    record { is = rw (a.is, b.is, c.is) refl; from = omega arith; to = omega arith }
