@@ -1,0 +1,8 @@
+-- `text::word::is_equal` meets its contract: slices are compared byte by byte.
+-- Assumes nothing.
+use Rattle.std.proofs.Common.{◌∙◌}
+use Rattle.text.proofs.Laws.Runs.{equal-pointwise}
+use Rattle.text.proofs.word.is_equal.Goals as goal
+
+pub returns : goal.returns
+returns c = c.eq.ensures ∙ equal-pointwise _ _
