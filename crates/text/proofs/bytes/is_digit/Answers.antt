@@ -1,8 +1,0 @@
--- `text::bytes::is_digit` meets its contract.
--- Assumes nothing.
-use Rattle.text.specs.Bytes.{is_digit}
-use Rattle.text.proofs.bytes.is_digit.Goals as goal
-
-pub returns : goal.returns
-unfolding is_digit
-returns c = c.is_ascii_digit.ensures.value
