@@ -3,7 +3,7 @@
 use mathlib.Core.Path.{◌≡◌, refl, sym, ap, ◌∙◌}
 use mathlib.Core.Bool.{Bool, true, false, ◌&&◌, and-false, false≢true}
 use mathlib.Core.List.{List, [], ◌∷◌}
-use mathlib.Core.Option.{none, some}
+use mathlib.Core.Option.{Option, none, some}
 use Prim.Native.Nat.{ℕ, suc, ◌+◌, ◌*◌, ◌-◌, ◌^◌, ◌≤◌, ◌<◌}
 use native.Mathlib.Omega.{arith}
 use native.Mathlib.Nat.{pow-suc, pow-le-pow_right}
@@ -18,7 +18,7 @@ use Rattle.text.specs.Runs.{is_empty, run, after_run, begins}
 use Rattle.text.specs.Parts.{part}
 use Rattle.text.proofs.Laws.Parts.{part-nil, part-cons, part_length, part-drop, part-take}
 use Rattle.text.proofs.Laws.Runs.{after_run-drop, run-part-to, begins-short}
-use Rattle.dates.specs.Reads.{expect, gap, fits, shaped, digit, value_from, Reads}
+use Rattle.dates.specs.Reads.{expect, gap, fits, shaped, digit, value_from, Ends, Reads}
 
 -- ---- no bytes, or some
 
@@ -62,6 +62,12 @@ module _ (s w : List ℕ) (p e j : ℕ) where
   pub shaped-cons : j < length w → p < e → e ≤ length s → shaped (drop j w) (part s p e) ≡ (fits (get_or w j 0) (get_or s p 0) && shaped (drop (j + 1) w) (part s (p + 1) e))
   unfolding shaped
   shaped-cons h k l = rw (add-one j, part-cons s p e k l, drop-cons w j 0 h)
+
+-- ---- what was found from a later byte on
+
+pub ends-from : {A : Type 0} (p a e : ℕ) (o : Option (A × ℕ)) → p ≤ a → Ends a e o → Ends p e o
+ends-from p a e none h i = tt
+ends-from p a e (some r) h i = (omega arith, i.1)
 
 -- ---- in a part of a text
 
