@@ -59,12 +59,10 @@ fn has_shape(text: &[u8], from: usize, to: usize, shape: &[u8]) -> bool
     if to - from < shape.len() {
         return false;
     }
-    let mut j = 0;
-    while j < shape.len() {
-        if !fits(text[from + j], shape[j]) {
+    for (j, &c) in shape.iter().enumerate() {
+        if !fits(text[from + j], c) {
             return false;
         }
-        j += 1;
     }
     true
 }
@@ -81,11 +79,9 @@ pub fn digits_value(text: &[u8], from: usize, to: usize) -> u32
     requires { (from ≤ to) × (to ≤ length text.now) × (to - from ≤ 9) }
     ensures { result ≡ value (part text.now from to) }
 {
-    let mut v: u32 = 0;
-    let mut i = from;
-    while i < to {
-        v = v * 10 + digit_value(text[i]);
-        i += 1;
+    let mut v = 0;
+    for &b in &text[from..to] {
+        v = v * 10 + digit_value(b);
     }
     v
 }
