@@ -36,6 +36,15 @@ abbrev pub HasRange : List ℕ → ℕ → ℕ → Options.Option (ℕ × Bool) 
 HasRange s p e Options.TheVariants.None = Unit {0}
 HasRange s p e (Options.TheVariants.Some f) = (f.1 ≡ is_some (half_in (part s p e)).until) × (p + 10 ≤ e)
 
+-- a second half is found with the byte at which it starts, which has room for its date
+abbrev pub second_at : List ℕ → ℕ → Options.Option (ℕ × ℕ) → Option (Half × ℕ)
+second_at s e Options.TheVariants.None = none
+second_at s e (Options.TheVariants.Some f) = some (half_in (part s f.0 e), f.1)
+
+abbrev pub HasDate : ℕ → Options.Option (ℕ × ℕ) → Type 0
+HasDate e Options.TheVariants.None = Unit {0}
+HasDate e (Options.TheVariants.Some f) = f.0 + 10 ≤ e
+
 -- a timestamp is found with the byte after it, and with that at which its second half starts
 abbrev pub end_of : Spans.Span → ℕ
 end_of (Spans.TheVariants.One q) = q

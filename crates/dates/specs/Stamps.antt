@@ -171,8 +171,11 @@ alone b h = alone_of b h h.until
 abbrev pub unless_range : Half → Read Half → Read Half
 unless_range h r = pick (is_some h.until) none r
 
+unfoldable pub second : List ℕ → List ℕ → List ℕ → Read Half
+second o c x = expect o x then λ u y. half c y then λ g z. unless_range g (some (g, z))
+
 unfoldable pub second_half : List ℕ → List ℕ → Half → List ℕ → Read Half
-second_half o c h x = unless_range h (expect o x then λ u y. half c y then λ g z. unless_range g (some (g, z)))
+second_half o c h x = unless_range h (second o c x)
 
 abbrev pub both : Bracket → Half → Half → Timestamp
 both b h g = Dates b h.moment h.repeater g.moment g.repeater
@@ -207,5 +210,5 @@ stamp x = let t = timestamp x in pick (is_stamp t.0) (some t) none
 
 -- opens the definitions of this file and of those it stands on, for computed examples
 unfoldable pub OpenStamps : Type 1
-unfolding OpenReads date is_day_name after_day_name time_with time first_time second_time times is_unit unit_after interval mark repeat delay repeater half second_half bracketed timestamp stamp
+unfolding OpenReads date is_day_name after_day_name time_with time first_time second_time times is_unit unit_after interval mark repeat delay repeater half second second_half bracketed timestamp stamp
 OpenStamps = Type 0

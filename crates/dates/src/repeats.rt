@@ -22,10 +22,7 @@ pub struct RepeaterTo {
 fn is_unit(b: u8) -> bool
     ensures { result ≡ spec.is_unit b }
 {
-    match b {
-        b'd' | b'h' | b'm' | b'w' | b'y' => true,
-        _ => false,
-    }
+    matches!(b, b'd' | b'h' | b'm' | b'w' | b'y')
 }
 
 // One to nine digits and a unit.

@@ -1,7 +1,7 @@
 ghost use Rattle.std.specs.Prelude.{◌≡◌, ◌≤◌, ◌<◌, length};
 ghost use Rattle.dates.specs.Reads.{Reads};
-ghost use Rattle.dates.specs.Stamps.{half, stamp};
-ghost use Rattle.dates.specs.Found.{half_at, HasRange, SpanOf, end_of, stamp_at};
+ghost use Rattle.dates.specs.Stamps.{half, second, stamp};
+ghost use Rattle.dates.specs.Found.{half_at, HasRange, second_at, HasDate, SpanOf, end_of, stamp_at};
 
 use crate::parts::{is_date, read_times, skip_day_name, skip_word};
 use crate::repeats::read_repeater;
@@ -29,6 +29,22 @@ fn skip_half(text: &[u8], at: usize, to: usize, closing: &[u8]) -> Option<(usize
     Some((end, times.until.is_some()))
 }
 
+// Past a second date, of no time range: the byte at which its half starts, and the byte after it.
+fn skip_second(
+    text: &[u8],
+    at: usize,
+    to: usize,
+    opening: &[u8],
+    closing: &[u8],
+) -> Option<(usize, usize)>
+    requires { (at ≤ to) × (to ≤ length text.now) }
+    ensures { Reads text.now at to (second opening.now closing.now) (second_at text.now to result) × HasDate to result }
+{
+    let start = skip_word(text, at, to, opening)?;
+    let (end, range) = skip_half(text, start, to, closing)?;
+    if range { None } else { Some((start, end)) }
+}
+
 // Past the timestamp whose opening bracket stands at a byte. A second date has the same brackets, and then neither half has a time range.
 pub fn skip_bracketed(
     text: &[u8],
@@ -44,16 +60,9 @@ pub fn skip_bracketed(
     if range {
         return Some(Span::One(a));
     }
-    let Some(b) = skip_word(text, a, to, opening) else {
-        return Some(Span::One(a));
-    };
-    let Some((end, second_range)) = skip_half(text, b, to, closing) else {
-        return Some(Span::One(a));
-    };
-    if second_range {
-        Some(Span::One(a))
-    } else {
-        Some(Span::Two(b, end))
+    match skip_second(text, a, to, opening, closing) {
+        None => Some(Span::One(a)),
+        Some((b, end)) => Some(Span::Two(b, end)),
     }
 }
 
