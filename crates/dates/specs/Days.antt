@@ -1,8 +1,10 @@
 -- Days between two Gregorian dates  [02 order 1].
 use Rattle.std.specs.Prelude.{Bool, not, ◌&&◌, ◌||◌, [], ◌∷◌, ℕ, zero, suc, ◌+◌, ◌*◌, ◌-◌, ◌/◌, ◌%◌, leb, eqb, get_or, ℤ, pos, ◌-ℤ◌}
+use Rattle.std.specs.declared.result.Result as Results
 use Rattle.text.specs.Number
 use Rattle.dates.specs.Reads.{pick}
 use Rattle.dates.specs.declared.stamp.Date.{Date}
+use Rattle.dates.specs.declared.days.NoDay.{NoDay}
 
 -- every fourth year but those of full centuries, of which every fourth
 unfoldable pub is_leap : ℕ → Bool
@@ -38,6 +40,15 @@ number a b = pick (is_calendar_day a && is_calendar_day b) Number.done Number.no
 
 unfoldable pub days : Date → Date → ℤ
 days a b = pick (is_calendar_day a && is_calendar_day b) (pos (day_number b) -ℤ pos (day_number a)) (pos 0)
+
+-- what an answer says of the two: its number, and the days
+abbrev pub told_number : Results.Result ℤ NoDay → ℕ
+told_number (Results.TheVariants.Ok n) = Number.done
+told_number (Results.TheVariants.Err e) = Number.no_day
+
+abbrev pub told_days : Results.Result ℤ NoDay → ℤ
+told_days (Results.TheVariants.Ok n) = n
+told_days (Results.TheVariants.Err e) = pos 0
 
 -- opens the definitions of this file and of those it stands on, for computed examples
 unfoldable pub OpenDays : Type 1

@@ -1,19 +1,17 @@
 -- Timestamps  [02 order 1], part by part as source 001 writes the pattern: each part says what it reads and what follows it, or nothing where it
 -- does not stand there. Only the shape is judged. One or more blank bytes stand between the parts, none next to a bracket.
 use Rattle.std.specs.Prelude.{Bool, true, false, not, ◌&&◌, ◌||◌, List, [], ◌∷◌, ℕ, ◌+◌, leb, eqb, length, take, drop}
+use Rattle.std.specs.Option.{is_some}
+use Rattle.std.specs.declared.option.Option as Options
 use Rattle.std.proofs.Math.Option.{none, some}
 use Rattle.text.specs.Bytes.{is_digit, is_day_name_byte, is_hyphen, lower}
 use Rattle.text.specs.Runs.{word, is_empty, run, after_run, begins}
 use Rattle.dates.specs.Reads.{Read, pick, ◌then◌, expect, gap, shaped, value, OpenReads}
 use Rattle.dates.specs.declared.stamp.Date.{Date}
 use Rattle.dates.specs.declared.stamp.Time.{Time}
-use Rattle.dates.specs.declared.stamp.Clock.{Clock}
-use Rattle.dates.specs.declared.stamp.Clock.TheVariants as Clocks
 use Rattle.dates.specs.declared.stamp.Interval.{Interval}
 use Rattle.dates.specs.declared.stamp.Mark.{Mark}
 use Rattle.dates.specs.declared.stamp.Mark.TheVariants.{Cumulate, CatchUp, Restart}
-use Rattle.dates.specs.declared.stamp.Limit.{Limit}
-use Rattle.dates.specs.declared.stamp.Limit.TheVariants as Limits
 use Rattle.dates.specs.declared.stamp.Repeat.{Repeat}
 use Rattle.dates.specs.declared.stamp.Delay.{Delay}
 use Rattle.dates.specs.declared.stamp.Repeater.{Repeater}
@@ -61,16 +59,26 @@ time x =
     none)
 
 -- optional time or time range `TIME-TIME`, after blank bytes: the first time and the second
+unfoldable pub first_time : List ℕ → Read Time
+first_time x = gap x then λ u y. time y
+
+unfoldable pub second_time : List ℕ → Read Time
+second_time x = expect (word "-") x then λ u y. time y
+
+-- a time, where there is one
+abbrev pub Clock : Type 0
+Clock = Options.Option Time
+
 abbrev pub range_from : Time → List ℕ → Read Time → (Clock × Clock) × List ℕ
-range_from t x none = ((Clocks.At t, Clocks.Nothing), x)
-range_from t x (some r) = ((Clocks.At t, Clocks.At r.0), r.1)
+range_from t x none = ((Options.TheVariants.Some t, Options.TheVariants.None), x)
+range_from t x (some r) = ((Options.TheVariants.Some t, Options.TheVariants.Some r.0), r.1)
 
 abbrev pub times_from : List ℕ → Read Time → (Clock × Clock) × List ℕ
-times_from x none = ((Clocks.Nothing, Clocks.Nothing), x)
-times_from x (some r) = range_from r.0 r.1 (expect (word "-") r.1 then λ u y. time y)
+times_from x none = ((Options.TheVariants.None, Options.TheVariants.None), x)
+times_from x (some r) = range_from r.0 r.1 (second_time r.1)
 
 unfoldable pub times : List ℕ → (Clock × Clock) × List ℕ
-times x = times_from x (gap x then λ u y. time y)
+times x = times_from x (first_time x)
 
 -- ---- repeater and delay
 
@@ -98,12 +106,12 @@ mark x =
     (pick (begins x (word ".+")) (some (Restart, drop 2 x))
     none))
 
-abbrev pub repeat_of : Mark → Interval → Limit → Repeat
+abbrev pub repeat_of : Mark → Interval → Options.Option Interval → Repeat
 repeat_of m i l = record { mark = m; every = i; limit = l }
 
 abbrev pub limit_from : Mark → Interval → List ℕ → Read (Unit {0}) → Read Repeat
-limit_from m i x none = some (repeat_of m i Limits.Nothing, x)
-limit_from m i x (some r) = interval r.1 then λ l y. some (repeat_of m i (Limits.Within l), y)
+limit_from m i x none = some (repeat_of m i Options.TheVariants.None, x)
+limit_from m i x (some r) = interval r.1 then λ l y. some (repeat_of m i (Options.TheVariants.Some l), y)
 
 unfoldable pub repeat : List ℕ → Read Repeat
 repeat x = gap x then λ u a. mark a then λ m b. interval b then λ i c. limit_from m i c (expect (word "/") c)
@@ -153,22 +161,21 @@ half c x =
 
 -- one date, with a time range or without
 abbrev pub alone_of : Bracket → Half → Clock → Timestamp
-alone_of b h Clocks.Nothing = Single b h.moment h.repeater
-alone_of b h (Clocks.At t) = Times b h.moment t h.repeater
+alone_of b h Options.TheVariants.None = Single b h.moment h.repeater
+alone_of b h (Options.TheVariants.Some t) = Times b h.moment t h.repeater
 
 abbrev pub alone : Bracket → Half → Timestamp
 alone b h = alone_of b h h.until
 
 -- a second date: `--` and the same bracket, o; neither half then has a time range
-abbrev pub is_at : Clock → Bool
-is_at Clocks.Nothing = false
-is_at (Clocks.At t) = true
-
 abbrev pub unless_range : Half → Read Half → Read Half
-unless_range h r = pick (is_at h.until) none r
+unless_range h r = pick (is_some h.until) none r
+
+unfoldable pub second : List ℕ → List ℕ → List ℕ → Read Half
+second o c x = expect o x then λ u y. half c y then λ g z. unless_range g (some (g, z))
 
 unfoldable pub second_half : List ℕ → List ℕ → Half → List ℕ → Read Half
-second_half o c h x = unless_range h (expect o x then λ u y. half c y then λ g z. unless_range g (some (g, z)))
+second_half o c h x = unless_range h (second o c x)
 
 abbrev pub both : Bracket → Half → Half → Timestamp
 both b h g = Dates b h.moment h.repeater g.moment g.repeater
@@ -203,5 +210,5 @@ stamp x = let t = timestamp x in pick (is_stamp t.0) (some t) none
 
 -- opens the definitions of this file and of those it stands on, for computed examples
 unfoldable pub OpenStamps : Type 1
-unfolding OpenReads date is_day_name after_day_name time_with time times is_unit unit_after interval mark repeat delay repeater half second_half bracketed timestamp stamp
+unfolding OpenReads date is_day_name after_day_name time_with time first_time second_time times is_unit unit_after interval mark repeat delay repeater half second second_half bracketed timestamp stamp
 OpenStamps = Type 0

@@ -2,25 +2,15 @@ ghost use Rattle.std.specs.Prelude.{◌≡◌, true, ◌≤◌, pos};
 ghost use Rattle.dates.specs.Days as spec;
 
 use crate::stamp::Date;
-use text::number;
 
-// A number, 0 or 11, and the days.
+// A date is no calendar day of years 1 to 9999.
 #[derive(Clone, Copy)]
-pub struct Days {
-    pub number: u32,
-    pub days: i32,
-}
+pub struct NoDay;
 
 fn is_leap(year: u32) -> bool
     ensures { result ≡ spec.is_leap year }
 {
-    if year % 4 != 0 {
-        return false;
-    }
-    if year % 100 != 0 {
-        return true;
-    }
-    year % 400 == 0
+    year % 4 == 0 && (year % 100 != 0 || year % 400 == 0)
 }
 
 fn february(year: u32) -> u32
@@ -33,16 +23,11 @@ fn february(year: u32) -> u32
 fn month_days(year: u32, month: u32) -> u32
     ensures { (result ≡ spec.month_days year month) × (result ≤ 31) }
 {
-    if month < 1 {
+    if month < 1 || 12 < month {
         return 0;
-    }
-    if 12 < month {
-        return 0;
-    }
-    if month == 2 {
-        return february(year);
     }
     match month {
+        2 => february(year),
         4 | 6 | 9 | 11 => 30,
         _ => 31,
     }
@@ -51,16 +36,10 @@ fn month_days(year: u32, month: u32) -> u32
 fn is_calendar_day(date: Date) -> bool
     ensures { result ≡ spec.is_calendar_day date }
 {
-    if date.year < 1 {
-        return false;
-    }
-    if 9999 < date.year {
-        return false;
-    }
-    if date.day < 1 {
-        return false;
-    }
-    date.day <= month_days(date.year, date.month)
+    1 <= date.year
+        && date.year <= 9999
+        && 1 <= date.day
+        && date.day <= month_days(date.year, date.month)
 }
 
 // The days of the year's earlier months.
@@ -69,10 +48,8 @@ fn days_before(year: u32, month: u32) -> u32
     ensures { (result ≡ spec.days_before year month) × (result ≤ 372) }
 {
     let mut sum = 0;
-    let mut m = 0;
-    while m < month {
+    for m in 0..month {
         sum += month_days(year, m);
-        m += 1;
     }
     sum
 }
@@ -90,26 +67,12 @@ fn day_number(date: Date) -> i32
     day as i32
 }
 
-// Second minus first: below zero when the second is earlier, zero when equal. 11, with 0, when either is no calendar day of years 1 to 9999.
-pub fn days_between(first: Date, second: Date) -> Days
-    ensures { (result.number ≡ spec.number first second) × (result.days ≡ spec.days first second) }
+// Second minus first: below zero when the second is earlier, zero when equal.
+pub fn days_between(first: Date, second: Date) -> Result<i32, NoDay>
+    ensures { (spec.told_number result ≡ spec.number first second) × (spec.told_days result ≡ spec.days first second) }
 {
-    if !is_calendar_day(first) {
-        return Days {
-            number: number::NO_DAY,
-            days: 0,
-        };
+    if !is_calendar_day(first) || !is_calendar_day(second) {
+        return Err(NoDay);
     }
-    if !is_calendar_day(second) {
-        return Days {
-            number: number::NO_DAY,
-            days: 0,
-        };
-    }
-    let from = day_number(first);
-    let to = day_number(second);
-    Days {
-        number: number::DONE,
-        days: to - from,
-    }
+    Ok(day_number(second) - day_number(first))
 }

@@ -3,58 +3,41 @@ ghost use Rattle.text.specs.Runs.{word};
 ghost use Rattle.text.specs.Parts.{part};
 ghost use Rattle.dates.specs.Reads as spec;
 ghost use Rattle.dates.specs.Reads.{Reads, Takes, expect, gap, shaped, digit, value};
-ghost use Rattle.dates.specs.Stamps.{date_in, time_with, time, times, after_day_name};
-ghost use Rattle.dates.specs.declared.stamp.Clock.TheVariants.{Nothing};
-ghost use Rattle.dates.specs.Found.{past_at, time_at};
+ghost use Rattle.text.specs.Maybe.{maybe};
+ghost use Rattle.dates.specs.Stamps.{date_in, time_with, time, times, first_time, second_time, after_day_name};
+ghost use Rattle.dates.specs.Found.{past_at};
 
-use crate::stamp::{Clock, Date, Time};
+use crate::stamp::{Date, Time};
 use text::bytes::{Class, is_digit, run_end};
 use text::word::begins_with;
-
-// What a reader finds from a byte on: a value and the byte after it, or nothing.
-#[derive(Clone, Copy)]
-pub enum Past {
-    At(usize),
-    Missing,
-}
-
-#[derive(Clone, Copy)]
-pub enum TimeAt {
-    At(Time, usize),
-    Missing,
-}
 
 // The times of a date: none, one, or a range's two; and the byte after them.
 #[derive(Clone, Copy)]
 pub struct Times {
-    pub from: Clock,
-    pub until: Clock,
+    pub from: Option<Time>,
+    pub until: Option<Time>,
     pub end: usize,
 }
 
-// Past a word.
-pub fn skip_word(text: &[u8], at: usize, to: usize, word: &[u8]) -> Past
+// Past a word. What passes over bytes gives the byte after them, and what reads a value gives that byte with it.
+pub fn skip_word(text: &[u8], at: usize, to: usize, word: &[u8]) -> Option<usize>
     requires { (at ≤ to) × (to ≤ length text.now) }
     ensures { Reads text.now at to (expect word.now) (past_at result) }
 {
     if begins_with(text, at, to, word) {
-        Past::At(at + word.len())
+        Some(at + word.len())
     } else {
-        Past::Missing
+        None
     }
 }
 
 // Past one or more blank bytes.
-pub fn skip_gap(text: &[u8], at: usize, to: usize) -> Past
+pub fn skip_gap(text: &[u8], at: usize, to: usize) -> Option<usize>
     requires { (at ≤ to) × (to ≤ length text.now) }
     ensures { Reads text.now at to gap (past_at result) }
 {
     let end = run_end(text, at, to, Class::Blank);
-    if end == at {
-        Past::Missing
-    } else {
-        Past::At(end)
-    }
+    if end == at { None } else { Some(end) }
 }
 
 // Whether a byte fits a byte of a shape, in which 0 stands for any digit.
@@ -76,12 +59,10 @@ fn has_shape(text: &[u8], from: usize, to: usize, shape: &[u8]) -> bool
     if to - from < shape.len() {
         return false;
     }
-    let mut j = 0;
-    while j < shape.len() {
-        if !fits(text[from + j], shape[j]) {
+    for (j, &c) in shape.iter().enumerate() {
+        if !fits(text[from + j], c) {
             return false;
         }
-        j += 1;
     }
     true
 }
@@ -98,11 +79,9 @@ pub fn digits_value(text: &[u8], from: usize, to: usize) -> u32
     requires { (from ≤ to) × (to ≤ length text.now) × (to - from ≤ 9) }
     ensures { result ≡ value (part text.now from to) }
 {
-    let mut v: u32 = 0;
-    let mut i = from;
-    while i < to {
-        v = v * 10 + digit_value(text[i]);
-        i += 1;
+    let mut v = 0;
+    for &b in &text[from..to] {
+        v = v * 10 + digit_value(b);
     }
     v
 }
@@ -139,28 +118,35 @@ fn time_with(text: &[u8], at: usize, to: usize, digits: usize) -> Time
 }
 
 // A time, `HH:MM` or `H:MM`.
-fn read_time(text: &[u8], at: usize, to: usize) -> TimeAt
+fn read_time(text: &[u8], at: usize, to: usize) -> Option<(Time, usize)>
     requires { (at ≤ to) × (to ≤ length text.now) }
-    ensures { Reads text.now at to time (time_at result) }
+    ensures { Reads text.now at to time (maybe result) }
 {
     if has_shape(text, at, to, b"00:00") {
-        return TimeAt::At(time_with(text, at, to, 2), at + 5);
+        return Some((time_with(text, at, to, 2), at + 5));
     }
     if has_shape(text, at, to, b"0:00") {
-        return TimeAt::At(time_with(text, at, to, 1), at + 4);
+        return Some((time_with(text, at, to, 1), at + 4));
     }
-    TimeAt::Missing
+    None
 }
 
-// The times of a date that has no time range.
-fn no_range(from: Clock, end: usize) -> Times
-    ensures { result ≡ record { from = from; until = Nothing; end = end } }
+// A time after blank bytes.
+fn read_first(text: &[u8], at: usize, to: usize) -> Option<(Time, usize)>
+    requires { (at ≤ to) × (to ≤ length text.now) }
+    ensures { Reads text.now at to first_time (maybe result) }
 {
-    Times {
-        from: from,
-        until: Clock::Nothing,
-        end: end,
-    }
+    let a = skip_gap(text, at, to)?;
+    read_time(text, a, to)
+}
+
+// The second time of a range, after its hyphen.
+fn read_second(text: &[u8], at: usize, to: usize) -> Option<(Time, usize)>
+    requires { (at ≤ to) × (to ≤ length text.now) }
+    ensures { Reads text.now at to second_time (maybe result) }
+{
+    let a = skip_word(text, at, to, b"-")?;
+    read_time(text, a, to)
 }
 
 // An optional time or time range, after blank bytes.
@@ -168,22 +154,24 @@ pub fn read_times(text: &[u8], at: usize, to: usize) -> Times
     requires { (at ≤ to) × (to ≤ length text.now) }
     ensures { Takes text.now at to times (result.from, result.until) result.end }
 {
-    let Past::At(a) = skip_gap(text, at, to) else {
-        return no_range(Clock::Nothing, at);
+    let Some((from, a)) = read_first(text, at, to) else {
+        return Times {
+            from: None,
+            until: None,
+            end: at,
+        };
     };
-    let TimeAt::At(from, b) = read_time(text, a, to) else {
-        return no_range(Clock::Nothing, at);
-    };
-    let Past::At(c) = skip_word(text, b, to, b"-") else {
-        return no_range(Clock::At(from), b);
-    };
-    let TimeAt::At(until, end) = read_time(text, c, to) else {
-        return no_range(Clock::At(from), b);
+    let Some((until, end)) = read_second(text, a, to) else {
+        return Times {
+            from: Some(from),
+            until: None,
+            end: a,
+        };
     };
     Times {
-        from: Clock::At(from),
-        until: Clock::At(until),
-        end: end,
+        from: Some(from),
+        until: Some(until),
+        end,
     }
 }
 
@@ -192,7 +180,7 @@ pub fn skip_day_name(text: &[u8], at: usize, to: usize) -> usize
     requires { (at ≤ to) × (to ≤ length text.now) }
     ensures { (after_day_name (part text.now at to) ≡ part text.now result to) × (at ≤ result) × (result ≤ to) }
 {
-    let Past::At(a) = skip_gap(text, at, to) else {
+    let Some(a) = skip_gap(text, at, to) else {
         return at;
     };
     let end = run_end(text, a, to, Class::DayName);

@@ -2,9 +2,10 @@ ghost use Rattle.std.specs.Prelude.{◌≡◌, ◌+◌, ◌≤◌, length};
 ghost use Rattle.text.specs.Parts.{part};
 ghost use Rattle.dates.specs.Reads.{Reads, Ends};
 ghost use Rattle.dates.specs.Planning as spec;
-ghost use Rattle.dates.specs.Found.{keyword_at, part_at, stamp_in, placed, PartEnds, PartsIn};
+ghost use Rattle.text.specs.Maybe.{maybe};
+ghost use Rattle.dates.specs.Found.{part_at, stamp_in, placed, PartEnds, PartsIn};
 
-use crate::parts::{Past, skip_gap};
+use crate::parts::skip_gap;
 use crate::read::read_timestamp;
 use crate::span::skip_timestamp;
 use crate::stamp::Timestamp;
@@ -33,58 +34,44 @@ pub struct Places {
     pub scheduled: usize,
 }
 
-#[derive(Clone, Copy)]
-pub enum KeywordAt {
-    At(Keyword, usize),
-    Missing,
-}
-
 // A part of a planning line: its keyword, the byte at which its stamp starts, and the byte after it.
 #[derive(Clone, Copy)]
-pub enum PartAt {
-    At(Keyword, usize, usize),
-    Missing,
-}
-
-// The parts of a line that is planning all through.
-#[derive(Clone, Copy)]
-pub enum Parts {
-    At(Places),
-    Missing,
+pub struct Part {
+    pub keyword: Keyword,
+    pub stamp: usize,
+    pub end: usize,
 }
 
 // `CLOSED:`, `DEADLINE:` or `SCHEDULED:`.
-fn read_keyword(text: &[u8], at: usize, to: usize) -> KeywordAt
+fn read_keyword(text: &[u8], at: usize, to: usize) -> Option<(Keyword, usize)>
     requires { (at ≤ to) × (to ≤ length text.now) }
-    ensures { Reads text.now at to spec.keyword (keyword_at result) × Ends (at + 1) to (keyword_at result) }
+    ensures { Reads text.now at to spec.keyword (maybe result) × Ends (at + 1) to (maybe result) }
 {
     if begins_with(text, at, to, b"closed:") {
-        return KeywordAt::At(Keyword::Closed, at + 7);
+        return Some((Keyword::Closed, at + 7));
     }
     if begins_with(text, at, to, b"deadline:") {
-        return KeywordAt::At(Keyword::Deadline, at + 9);
+        return Some((Keyword::Deadline, at + 9));
     }
     if begins_with(text, at, to, b"scheduled:") {
-        return KeywordAt::At(Keyword::Scheduled, at + 10);
+        return Some((Keyword::Scheduled, at + 10));
     }
-    KeywordAt::Missing
+    None
 }
 
 // A keyword, blank bytes and a timestamp of any kind.
-fn read_part(text: &[u8], at: usize, to: usize) -> PartAt
+fn read_part(text: &[u8], at: usize, to: usize) -> Option<Part>
     requires { (at ≤ to) × (to ≤ length text.now) }
     ensures { Reads text.now at to spec.planning_part (part_at text.now to result) × PartEnds at to result }
 {
-    let KeywordAt::At(keyword, a) = read_keyword(text, at, to) else {
-        return PartAt::Missing;
-    };
-    let Past::At(b) = skip_gap(text, a, to) else {
-        return PartAt::Missing;
-    };
-    let Past::At(end) = skip_timestamp(text, b, to) else {
-        return PartAt::Missing;
-    };
-    PartAt::At(keyword, b, end)
+    let (keyword, a) = read_keyword(text, at, to)?;
+    let stamp = skip_gap(text, a, to)?;
+    let end = skip_timestamp(text, stamp, to)?;
+    Some(Part {
+        keyword,
+        stamp,
+        end,
+    })
 }
 
 // A part's stamp becomes its keyword's.
@@ -94,24 +81,21 @@ fn put(places: Places, keyword: Keyword, at: usize) -> Places
     match keyword {
         Keyword::Closed => Places {
             closed: at,
-            deadline: places.deadline,
-            scheduled: places.scheduled,
+            ..places
         },
         Keyword::Deadline => Places {
-            closed: places.closed,
             deadline: at,
-            scheduled: places.scheduled,
+            ..places
         },
         Keyword::Scheduled => Places {
-            closed: places.closed,
-            deadline: places.deadline,
             scheduled: at,
+            ..places
         },
     }
 }
 
 // The parts of a line's body: one or more, with blank bytes between them, and nothing else.
-fn read_parts(text: &[u8], from: usize, to: usize) -> Parts
+fn read_parts(text: &[u8], from: usize, to: usize) -> Option<Places>
     requires { (from ≤ to) × (to ≤ length text.now) }
     ensures { PartsIn text.now from to result }
 {
@@ -122,20 +106,14 @@ fn read_parts(text: &[u8], from: usize, to: usize) -> Parts
     };
     let mut at = from;
     while at < to {
-        let PartAt::At(keyword, stamp, end) = read_part(text, at, to) else {
-            return Parts::Missing;
-        };
-        places = put(places, keyword, stamp);
-        let Past::At(next) = skip_gap(text, end, to) else {
-            return if end == to {
-                Parts::At(places)
-            } else {
-                Parts::Missing
-            };
+        let part = read_part(text, at, to)?;
+        places = put(places, part.keyword, part.stamp);
+        let Some(next) = skip_gap(text, part.end, to) else {
+            return if part.end == to { Some(places) } else { None };
         };
         at = next;
     }
-    Parts::Missing
+    None
 }
 
 // Whether a line's body is dates all through.
@@ -143,10 +121,7 @@ pub fn is_planning(text: &[u8], from: usize, to: usize) -> bool
     requires { (from ≤ to) × (to ≤ length text.now) }
     ensures { result ≡ spec.planning_body (part text.now from to) }
 {
-    match read_parts(text, from, to) {
-        Parts::At(_) => true,
-        Parts::Missing => false,
-    }
+    read_parts(text, from, to).is_some()
 }
 
 // The timestamp at a byte.
@@ -154,8 +129,7 @@ fn stamp_at(text: &[u8], at: usize, to: usize) -> Timestamp
     requires { (at ≤ to) × (to ≤ length text.now) }
     ensures { result ≡ stamp_in text.now at to }
 {
-    let stamp = read_timestamp(text, at, to);
-    stamp.timestamp
+    read_timestamp(text, at, to).timestamp
 }
 
 // The stamps of a line's body.
@@ -163,7 +137,7 @@ pub fn read_planning(text: &[u8], from: usize, to: usize) -> Planning
     requires { (from ≤ to) × (to ≤ length text.now) }
     ensures { result ≡ spec.planning_stamps (part text.now from to) }
 {
-    let Parts::At(places) = read_parts(text, from, to) else {
+    let Some(places) = read_parts(text, from, to) else {
         return Planning {
             closed: Timestamp::Nothing,
             deadline: Timestamp::Nothing,

@@ -7,7 +7,7 @@ ghost use Rattle.dates.specs.Found.{half_in};
 use crate::parts::{date_at, read_times, skip_day_name};
 use crate::repeats::read_repeater;
 use crate::span::{Span, skip_bracketed};
-use crate::stamp::{Bracket, Clock, Half, Moment, Timestamp};
+use crate::stamp::{Bracket, Half, Moment, Timestamp};
 use text::word::begins_with;
 
 // A timestamp, or none, and the byte after it.
@@ -24,18 +24,15 @@ fn half_at(text: &[u8], at: usize, to: usize) -> Half
 {
     let a = skip_day_name(text, at + 10, to);
     let times = read_times(text, a, to);
-    let clock = times.from;
-    let until = times.until;
     let repeats = read_repeater(text, times.end, to);
-    let repeater = repeats.repeater;
     let moment = Moment {
         date: date_at(text, at, to),
-        clock: clock,
+        clock: times.from,
     };
     Half {
-        moment: moment,
-        until: until,
-        repeater: repeater,
+        moment,
+        until: times.until,
+        repeater: repeats.repeater,
     }
 }
 
@@ -43,12 +40,9 @@ fn half_at(text: &[u8], at: usize, to: usize) -> Half
 fn alone(bracket: Bracket, half: Half) -> Timestamp
     ensures { result ≡ spec.alone bracket half }
 {
-    let moment = half.moment;
-    let until = half.until;
-    let repeater = half.repeater;
-    match until {
-        Clock::Nothing => Timestamp::Single(bracket, moment, repeater),
-        Clock::At(time) => Timestamp::Times(bracket, moment, time, repeater),
+    match half.until {
+        None => Timestamp::Single(bracket, half.moment, half.repeater),
+        Some(time) => Timestamp::Times(bracket, half.moment, time, half.repeater),
     }
 }
 
@@ -56,11 +50,13 @@ fn alone(bracket: Bracket, half: Half) -> Timestamp
 fn both(bracket: Bracket, half: Half, second: Half) -> Timestamp
     ensures { result ≡ spec.both bracket half second }
 {
-    let moment = half.moment;
-    let repeater = half.repeater;
-    let until = second.moment;
-    let after = second.repeater;
-    Timestamp::Dates(bracket, moment, repeater, until, after)
+    Timestamp::Dates(
+        bracket,
+        half.moment,
+        half.repeater,
+        second.moment,
+        second.repeater,
+    )
 }
 
 // The timestamp whose opening bracket stands at a byte.
@@ -76,19 +72,19 @@ fn read_bracketed(
     ensures { Takes text.now at to (spec.bracketed bracket opening.now closing.now) result.timestamp result.end }
 {
     match skip_bracketed(text, at, to, opening, closing) {
-        Span::One(end) => StampTo {
+        Some(Span::One(end)) => StampTo {
             timestamp: alone(bracket, half_at(text, at + 1, to)),
-            end: end,
+            end,
         },
-        Span::Two(second, end) => StampTo {
+        Some(Span::Two(second, end)) => StampTo {
             timestamp: both(
                 bracket,
                 half_at(text, at + 1, to),
                 half_at(text, second, to),
             ),
-            end: end,
+            end,
         },
-        Span::Missing => StampTo {
+        None => StampTo {
             timestamp: Timestamp::Nothing,
             end: at,
         },

@@ -12,17 +12,10 @@ pub struct Time {
     pub minute: u32,
 }
 
-// A time, where there is one.
-#[derive(Clone, Copy)]
-pub enum Clock {
-    Nothing,
-    At(Time),
-}
-
 #[derive(Clone, Copy)]
 pub struct Moment {
     pub date: Date,
-    pub clock: Clock,
+    pub clock: Option<Time>,
 }
 
 // A number and its unit, one of `h d w m y`.
@@ -40,18 +33,12 @@ pub enum Mark {
     Restart,
 }
 
-// What may follow a repeater: `/` and an interval.
-#[derive(Clone, Copy)]
-pub enum Limit {
-    Nothing,
-    Within(Interval),
-}
-
+// A repeater; `limit` is the interval that may follow it after `/`.
 #[derive(Clone, Copy)]
 pub struct Repeat {
     pub mark: Mark,
     pub every: Interval,
-    pub limit: Limit,
+    pub limit: Option<Interval>,
 }
 
 // `-`, or `--` for the first time only.
@@ -90,6 +77,6 @@ pub enum Timestamp {
 #[derive(Clone, Copy)]
 pub struct Half {
     pub moment: Moment,
-    pub until: Clock,
+    pub until: Option<Time>,
     pub repeater: Repeater,
 }

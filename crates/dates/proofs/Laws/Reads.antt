@@ -3,7 +3,7 @@
 use mathlib.Core.Path.{◌≡◌, refl, sym, ap, ◌∙◌}
 use mathlib.Core.Bool.{Bool, true, false, ◌&&◌, and-false, false≢true}
 use mathlib.Core.List.{List, [], ◌∷◌}
-use mathlib.Core.Option.{none, some}
+use mathlib.Core.Option.{Option, none, some}
 use Prim.Native.Nat.{ℕ, suc, ◌+◌, ◌*◌, ◌-◌, ◌^◌, ◌≤◌, ◌<◌}
 use native.Mathlib.Omega.{arith}
 use native.Mathlib.Nat.{pow-suc, pow-le-pow_right}
@@ -16,9 +16,9 @@ use borrow.Author.Tests.{ltb-true, ltb-false}
 use Rattle.text.specs.Bytes.{is_blank}
 use Rattle.text.specs.Runs.{is_empty, run, after_run, begins}
 use Rattle.text.specs.Parts.{part}
-use Rattle.text.proofs.Laws.Parts.{part-nil, part-cons, part_length, part-drop, part-take}
+use Rattle.text.proofs.Laws.Parts.{part-cons, part_length, part-drop, part-take}
 use Rattle.text.proofs.Laws.Runs.{after_run-drop, run-part-to, begins-short}
-use Rattle.dates.specs.Reads.{expect, gap, fits, shaped, digit, value_from, Reads}
+use Rattle.dates.specs.Reads.{expect, gap, fits, shaped, digit, value_from, Ends, Reads}
 
 -- ---- no bytes, or some
 
@@ -63,18 +63,15 @@ module _ (s w : List ℕ) (p e j : ℕ) where
   unfolding shaped
   shaped-cons h k l = rw (add-one j, part-cons s p e k l, drop-cons w j 0 h)
 
+-- ---- what was found from a later byte on
+
+pub ends-from : {A : Type 0} (p a e : ℕ) (o : Option (A × ℕ)) → p ≤ a → Ends a e o → Ends p e o
+ends-from p a e none h i = tt
+ends-from p a e (some r) h i = (omega arith, i.1)
+
 -- ---- in a part of a text
 
 module _ (s : List ℕ) (p e : ℕ) where
-  -- the value of digits
-  pub value-nil : (v : ℕ) → e ≤ p → value_from v (part s p e) ≡ v
-  unfolding value_from
-  value-nil v h = rw (part-nil s p e h)
-
-  pub value-cons : (v : ℕ) → p < e → e ≤ length s → value_from v (part s p e) ≡ value_from (v * 10 + digit (get_or s p 0)) (part s (p + 1) e)
-  unfolding value_from
-  value-cons v h k = rw (part-cons s p e h k)
-
   -- n bytes from place m on, bytes a to q
   pub take_part : (m n a q : ℕ) → a ≡ p + m → q ≡ a + n → q ≤ e → take n (drop m (part s p e)) ≡ part s a q
   take_part m n a q i j h = rw (i, j, i, part-drop s m p e) (part-take s n (p + m) e (omega arith))
@@ -106,7 +103,15 @@ module _ (s : List ℕ) (p e : ℕ) where
           within = (omega arith, run-part-to s p e is_blank h k q i);
         }
 
--- ---- digits
+-- ---- digits: their value from place k on
+
+pub value-nil : (x : List ℕ) (k v : ℕ) → length x ≤ k → value_from v (drop k x) ≡ v
+unfolding value_from
+value-nil x k v h = rw (drop_of_length-le x h)
+
+pub value-cons : (x : List ℕ) (k v : ℕ) → k < length x → value_from v (drop k x) ≡ value_from (v * 10 + digit (get_or x k 0)) (drop (k + 1) x)
+unfolding value_from
+value-cons x k v h = rw (add-one k, drop-cons x k 0 h)
 
 -- one digit more
 pub value-bound : (v k d : ℕ) → v < 10 ^ k → d ≤ 9 → v * 10 + d < 10 ^ (k + 1)

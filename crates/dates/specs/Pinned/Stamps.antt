@@ -1,21 +1,18 @@
 -- Timestamps  [02 order 1]: the smallest readings, which bytes are a timestamp, and what a timestamp holds.
 use Rattle.std.specs.Prelude.{Bool, false, not, List, [], ◌∷◌, ◌++◌, map, ℕ, length}
+use Rattle.std.specs.declared.option.Option as Options
 use Rattle.std.proofs.Math.Option.{none, some}
 use Prim.Native.String.{String}
 use Rattle.text.specs.Runs.{word, is_empty}
 use Rattle.text.specs.Cases.{Case, case, ◌holds◌fails◌, below, OpenCases}
 use Rattle.dates.specs.Reads.{Read, pick, expect, gap, fits, shaped, digit, value}
-use Rattle.dates.specs.Stamps.{date, is_day_name, after_day_name, time, times, is_unit, interval, mark, repeat, delay, repeater, timestamp, stamp, OpenStamps}
+use Rattle.dates.specs.Stamps.{Clock, date, is_day_name, after_day_name, time, times, is_unit, interval, mark, repeat, delay, repeater, timestamp, stamp, OpenStamps}
 use Rattle.dates.specs.declared.stamp.Date.{Date}
 use Rattle.dates.specs.declared.stamp.Time.{Time}
 use Rattle.dates.specs.declared.stamp.Moment.{Moment}
-use Rattle.dates.specs.declared.stamp.Clock.{Clock}
-use Rattle.dates.specs.declared.stamp.Clock.TheVariants as Clocks
 use Rattle.dates.specs.declared.stamp.Interval.{Interval}
 use Rattle.dates.specs.declared.stamp.Mark.{Mark}
 use Rattle.dates.specs.declared.stamp.Mark.TheVariants.{Cumulate, CatchUp, Restart}
-use Rattle.dates.specs.declared.stamp.Limit.{Limit}
-use Rattle.dates.specs.declared.stamp.Limit.TheVariants as Limits
 use Rattle.dates.specs.declared.stamp.Repeat.{Repeat}
 use Rattle.dates.specs.declared.stamp.Delay.{Delay}
 use Rattle.dates.specs.declared.stamp.Repeater.{Repeater}
@@ -36,8 +33,8 @@ of_time t = t.hour ∷ t.minute ∷ []
 -- 0, or 1 and the time
 unfoldable pub of_clock : Clock → List ℕ
 unfolding of_time
-of_clock Clocks.Nothing = 0 ∷ []
-of_clock (Clocks.At t) = 1 ∷ of_time t
+of_clock Options.TheVariants.None = 0 ∷ []
+of_clock (Options.TheVariants.Some t) = 1 ∷ of_time t
 
 unfoldable pub of_moment : Moment → List ℕ
 unfolding of_date of_clock
@@ -54,10 +51,10 @@ of_mark CatchUp = 2 ∷ []
 of_mark Restart = 3 ∷ []
 
 -- 0, or 1 and the interval
-unfoldable pub of_limit : Limit → List ℕ
+unfoldable pub of_limit : Options.Option Interval → List ℕ
 unfolding of_interval
-of_limit Limits.Nothing = 0 ∷ []
-of_limit (Limits.Within i) = 1 ∷ of_interval i
+of_limit Options.TheVariants.None = 0 ∷ []
+of_limit (Options.TheVariants.Some i) = 1 ∷ of_interval i
 
 unfoldable pub of_repeat : Repeat → List ℕ
 unfolding of_mark of_interval of_limit

@@ -9,22 +9,19 @@ use Rattle.dates.proofs.days.month_days.Goals as goal
 
 pub returns-then-month-lt1 : goal.returns-then-month-lt1
 unfolding month_days
-returns-then-month-lt1 c = let m : c.args.month ≡ 0 = omega arith in (rw m, omega arith)
+returns-then-month-lt1 c = on c.then-month-lt1.either (λ h. let m : c.args.month ≡ 0 = omega arith in (rw m, omega arith)) (λ h. (sym (month_days-none _ _ h.1), omega arith))
 
-pub returns-then-month-gt12 : goal.returns-then-month-gt12
-returns-then-month-gt12 c = (sym (month_days-none _ _ (omega arith)), omega arith)
-
-pub returns-then-month-eq2 : goal.returns-then-month-eq2
+pub returns-in-2 : goal.returns-in-2
 unfolding month_days
-returns-then-month-eq2 c = let e = c.february.ensures in (rw c.if-month-eq2.true e.0, omega arith)
+returns-in-2 c = let e = c.february.ensures in (rw c.in-2.is e.0, omega arith)
 
 pub returns-in-4 : goal.returns-in-4
 unfolding month_days
 returns-in-4 c = (on c.in-4.is (λ e. rw e) (λ e. on e (λ e. rw e) (λ e. on e (λ e. rw e) (λ e. rw e))), omega arith)
 
 pub returns-in_default : goal.returns-in_default
-returns-in_default c = let no = c.in_default.in_default-own.rest.1 in (
-  sym (month_days-long _ _ c.if-month-lt1.false c.if-month-gt12.false c.if-month-eq2.false
-      (λ e. no (inl e)) (λ e. no (inr (inl e))) (λ e. no (inr (inr (inl e)))) (λ e. no (inr (inr (inr e))))),
+returns-in_default c = let no = c.in_default.in_default-own.rest in (
+  sym (month_days-long _ _ c.if-month-lt1.false c.if-month-gt12.false no.0.1
+      (λ e. no.1 (inl e)) (λ e. no.1 (inr (inl e))) (λ e. no.1 (inr (inr (inl e)))) (λ e. no.1 (inr (inr (inr e))))),
   omega arith,
 )

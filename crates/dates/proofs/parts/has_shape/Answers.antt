@@ -17,18 +17,15 @@ returns-then-not-fits c =
     let step =
     shaped-cons a.text.now a.shape.now (a.from + c.loop-j.j) a.to c.loop-j.j
     c.loop-j-test.true (omega arith) (omega arith) in
-    sym (step ∙ rw (sym c.if-not-fits.ensures)) ∙ c.loop-j.invariant.2
+    sym (step ∙ rw (sym c.if-not-fits.ensures)) ∙ c.loop-j.invariant
 
 pub loop-j-preserved : goal.loop-j-preserved
 loop-j-preserved c =
     let a = c.args in
     let step =
     shaped-cons a.text.now a.shape.now (a.from + c.loop-j.j) a.to c.loop-j.j
-    c.loop-j-test.true (omega arith) (omega arith) in (
-      omega arith,
-      omega arith,
-      rw (← add_assoc _ _ 1) (sym (step ∙ rw (sym c.if-not-fits.ensures))) ∙ c.loop-j.invariant.2,
-    )
+    c.loop-j-test.true (omega arith) (omega arith) in
+    rw (← add_assoc _ _ 1) (sym (step ∙ rw (sym c.if-not-fits.ensures))) ∙ c.loop-j.invariant
 
 pub returns : goal.returns
-returns c = sym (shaped-nil _ c.args.shape.now _ _ c.loop-j.j c.loop-j-test.false) ∙ c.loop-j.invariant.2
+returns c = sym (shaped-nil _ c.args.shape.now _ _ c.loop-j.j c.loop-j-test.false) ∙ c.loop-j.invariant

@@ -1,16 +1,10 @@
 -- `dates::parts::has_shape` meets its contract: a part shorter than the shape is not of it.
 -- The invariant: what is left of the part begins like what is left of the shape just where the part begins like the shape.
--- The measure is the bytes left of the shape.
 -- Assumes nothing.
-use Rattle.std.proofs.Common.{◌≡◌, ◌+◌, ◌-◌, ◌≤◌, length, drop}
+use Rattle.std.proofs.Common.{◌≡◌, ◌+◌, drop}
 use Rattle.text.specs.Parts.{part}
 use Rattle.dates.specs.Reads.{shaped}
 use Rattle.dates.proofs.parts.has_shape.Given as goal
 
 abbrev pub invariant-loop-j : goal.invariant-loop-j
-invariant-loop-j l =
-    (l.from + length l.shape ≤ l.to) × (l.to ≤ length l.text)
-    × (shaped (drop l.j l.shape) (part l.text (l.from + l.j) l.to) ≡ shaped l.shape (part l.text l.from l.to))
-
-abbrev pub decreases-loop-j : goal.decreases-loop-j
-decreases-loop-j l = length l.shape - l.j
+invariant-loop-j l = shaped (drop l.j l.shape) (part l.text (l.from + l.j) l.to) ≡ shaped l.shape (part l.text l.from l.to)

@@ -4,19 +4,19 @@ use Rattle.std.proofs.Common.{arith}
 use Rattle.dates.specs.Planning.{planning_part}
 use Rattle.dates.proofs.planning.read_part.Goals as goal
 
-pub returns-in_default : goal.returns-in_default
+pub returns-in_err-keyword : goal.returns-in_err-keyword
 unfolding planning_part
-returns-in_default c = (record { is = rw c.in_default.ensures.0.is; within = tt }, tt)
+returns-in_err-keyword c = rw c.from_residual.ensures (record { is = rw c.in_err-keyword.ensures.0.is; within = tt }, tt)
 
-pub returns-in_default-skip_gap : goal.returns-in_default-skip_gap
+pub returns-in_err-stamp : goal.returns-in_err-stamp
 unfolding planning_part
-returns-in_default-skip_gap c = (record { is = rw (c.in-At.ensures.0.is, c.in_default-skip_gap.ensures.is); within = tt }, tt)
+returns-in_err-stamp c = rw c.from_residual-in_err-stamp.ensures (record { is = rw (c.in_ok-keyword.ensures.0.is, c.in_err-stamp.ensures.is); within = tt }, tt)
 
-pub returns-in_default-skip_timestamp : goal.returns-in_default-skip_timestamp
+pub returns-in_err-end : goal.returns-in_err-end
 unfolding planning_part
-returns-in_default-skip_timestamp c = (
+returns-in_err-end c = rw c.from_residual-in_err-end.ensures (
   record {
-    is = rw (c.in-At.ensures.0.is, c.in-At-skip_gap.ensures.is, c.in_default-skip_timestamp.ensures.is);
+    is = rw (c.in_ok-keyword.ensures.0.is, c.in_ok-stamp.ensures.is, c.in_err-end.ensures.is);
     within = tt;
   },
   tt,
@@ -25,9 +25,9 @@ returns-in_default-skip_timestamp c = (
 pub returns : goal.returns
 unfolding planning_part
 returns c =
-    let k = c.in-At.ensures in
-    let g = c.in-At-skip_gap.ensures in
-    let s = c.in-At-skip_timestamp.ensures in (
+    let k = c.in_ok-keyword.ensures in
+    let g = c.in_ok-stamp.ensures in
+    let s = c.in_ok-end.ensures in (
       record {
         is = rw (k.0.is, g.is, s.is);
         within = omega arith;

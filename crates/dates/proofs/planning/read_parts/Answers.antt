@@ -18,31 +18,31 @@ loop-at-init c =
     let n = part_length s from to c.requires.1 in
     (omega arith, omega arith, omega arith, omega arith, (length (part s from to), (omega arith, rw (stamps_in-end s to))))
 
-pub returns-in_default : goal.returns-in_default
-returns-in_default c =
+pub returns-in_err-part : goal.returns-in_err-part
+returns-in_err-part c =
     let inv = c.loop-at.invariant in
-    record { is = sym inv.4.1.1 ∙ planning-missing _ _ _ _ inv.4.0 c.in_default.ensures.0; within = tt }
+    rw c.from_residual.ensures (record { is = sym inv.4.1.1 ∙ planning-missing _ _ _ _ inv.4.0 c.in_err-part.ensures.0; within = tt })
 
-pub returns-then-end-to : goal.returns-then-end-to
-returns-then-end-to c =
+pub returns-then-part-to : goal.returns-then-part-to
+returns-then-part-to c =
     let s = c.args.text.now in
     let to = c.args.to in
     let inv = c.loop-at.invariant in
-    let part = c.in-At.ensures in
-    let k = c.in-At.keyword in
-    let q = c.in-At.stamp in
-    let last = planning-last _ _ _ _ _ _ _ part.0 inv.4.0 (omega (arith, inv.4.1.0)) c.in_default-skip_gap.ensures (omega arith) in
+    let part = c.in_ok-part.ensures in
+    let k = c.in_ok-part.part.keyword in
+    let q = c.in_ok-part.part.stamp in
+    let last = planning-last _ _ _ _ _ _ _ part.0 inv.4.0 (omega (arith, inv.4.1.0)) c.in_default.ensures (omega arith) in
     record {
       is = sym inv.4.1.1 ∙ last ∙ rw c.put-places.ensures (ap (λ (x : Planning). some x) (put-placed s to k q c.loop-at.places));
       within = rw c.put-places.ensures (placed-in s to k q c.loop-at.places part.1.0 inv.3);
     }
 
-pub returns-else-end-to : goal.returns-else-end-to
-returns-else-end-to c =
+pub returns-else-part-to : goal.returns-else-part-to
+returns-else-part-to c =
     let inv = c.loop-at.invariant in
-    let part = c.in-At.ensures in
+    let part = c.in_ok-part.ensures in
     let other =
-    planning-other _ _ _ _ _ _ _ part.0 inv.4.0 (omega (arith, inv.4.1.0)) c.in_default-skip_gap.ensures (omega (arith, part.1)) inv.2 in
+    planning-other _ _ _ _ _ _ _ part.0 inv.4.0 (omega (arith, inv.4.1.0)) c.in_default.ensures (omega (arith, part.1)) inv.2 in
     record { is = sym inv.4.1.1 ∙ other; within = tt }
 
 pub loop-at-preserved : goal.loop-at-preserved
@@ -50,10 +50,10 @@ loop-at-preserved c =
     let s = c.args.text.now in
     let to = c.args.to in
     let inv = c.loop-at.invariant in
-    let part = c.in-At.ensures in
-    let k = c.in-At.keyword in
-    let q = c.in-At.stamp in
-    let g = c.in-At-skip_gap.ensures in
+    let part = c.in_ok-part.ensures in
+    let k = c.in_ok-part.part.keyword in
+    let q = c.in_ok-part.part.stamp in
+    let g = c.in-Some.ensures in
     let more = planning-more _ _ _ _ _ _ _ part.0 inv.4.0 (omega (arith, inv.4.1.0)) _ g in (
       omega (arith, part.1),
       omega arith,

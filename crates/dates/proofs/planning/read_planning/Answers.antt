@@ -9,4 +9,4 @@ returns-in_default c = rw c.in_default.ensures.is
 
 pub returns : goal.returns
 unfolding planning_stamps
-returns c = rw (c.in-At.ensures.is, c.stamp_at.ensures, c.stamp_at-2.ensures, c.stamp_at-3.ensures)
+returns c = rw (c.in-Some.ensures.is, c.stamp_at.ensures, c.stamp_at-2.ensures, c.stamp_at-3.ensures)

@@ -11,7 +11,7 @@ use Rattle.dates.proofs.planning.stamp_at.Tie as tie
 
 returns : tie.Need-returns
 unfolding stamp_in
-returns c = sym (ap (λ (x : Timestamp × List ℕ). x.0) c.read_timestamp-stamp.ensures.is)
+returns c = sym (ap (λ (x : Timestamp × List ℕ). x.0) c.read_timestamp.ensures.is)
 
 pub stamp_at_spec : {M : Type 1} → statement M
 stamp_at_spec =

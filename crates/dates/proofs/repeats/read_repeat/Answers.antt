@@ -5,40 +5,40 @@ use Rattle.text.specs.Runs.{word}
 use Rattle.dates.specs.Stamps.{repeat}
 use Rattle.dates.proofs.repeats.read_repeat.Goals as goal
 
+pub returns-in_err-a : goal.returns-in_err-a
+unfolding repeat
+returns-in_err-a c = rw c.from_residual.ensures (record { is = rw c.in_err-a.ensures.is; within = tt })
+
+pub returns-in_err-mark : goal.returns-in_err-mark
+unfolding repeat
+returns-in_err-mark c = rw c.from_residual-in_err-mark.ensures (record { is = rw (c.in_ok-a.ensures.is, c.in_err-mark.ensures.is); within = tt })
+
+pub returns-in_err-every : goal.returns-in_err-every
+unfolding repeat
+returns-in_err-every c = rw c.from_residual-in_err-every.ensures (record { is = rw (c.in_ok-a.ensures.is, c.in_ok-mark.ensures.is, c.in_err-every.ensures.is); within = tt })
+
 pub returns-in_default : goal.returns-in_default
-unfolding repeat
-returns-in_default c = record { is = rw c.in_default.ensures.is; within = tt }
-
-pub returns-in_default-read_mark : goal.returns-in_default-read_mark
-unfolding repeat
-returns-in_default-read_mark c = record { is = rw (c.in-At.ensures.is, c.in_default-read_mark.ensures.is); within = tt }
-
-pub returns-in_default-read_interval : goal.returns-in_default-read_interval
-unfolding repeat
-returns-in_default-read_interval c = record { is = rw (c.in-At.ensures.is, c.in-At-read_mark.ensures.is, c.in_default-read_interval.ensures.is); within = tt }
-
-pub returns-in_default-skip_word : goal.returns-in_default-skip_word
 unfolding repeat word
-returns-in_default-skip_word c =
-    let g = c.in-At.ensures in
-    let m = c.in-At-read_mark.ensures in
-    let i = c.in-At-read_interval.ensures in
-    record { is = rw (g.is, m.is, i.is, c.in_default-skip_word.ensures.is); within = omega arith }
+returns-in_default c =
+    let g = c.in_ok-a.ensures in
+    let m = c.in_ok-mark.ensures in
+    let i = c.in_ok-every.ensures in
+    record { is = rw (g.is, m.is, i.is, c.in_default.ensures.is); within = omega arith }
 
-pub returns-in_default-read_interval-2 : goal.returns-in_default-read_interval-2
+pub returns-in_err-within : goal.returns-in_err-within
 unfolding repeat word
-returns-in_default-read_interval-2 c =
-    let g = c.in-At.ensures in
-    let m = c.in-At-read_mark.ensures in
-    let i = c.in-At-read_interval.ensures in
-    record { is = rw (g.is, m.is, i.is, c.in-At-skip_word.ensures.is, c.in_default-read_interval-2.ensures.is); within = tt }
+returns-in_err-within c =
+    let g = c.in_ok-a.ensures in
+    let m = c.in_ok-mark.ensures in
+    let i = c.in_ok-every.ensures in
+    rw c.from_residual-in_err-within.ensures (record { is = rw (g.is, m.is, i.is, c.in-Some.ensures.is, c.in_err-within.ensures.is); within = tt })
 
 pub returns : goal.returns
 unfolding repeat word
 returns c =
-    let g = c.in-At.ensures in
-    let m = c.in-At-read_mark.ensures in
-    let i = c.in-At-read_interval.ensures in
-    let w = c.in-At-skip_word.ensures in
-    let l = c.in-At-read_interval-2.ensures in
+    let g = c.in_ok-a.ensures in
+    let m = c.in_ok-mark.ensures in
+    let i = c.in_ok-every.ensures in
+    let w = c.in-Some.ensures in
+    let l = c.in_ok-within.ensures in
     record { is = rw (g.is, m.is, i.is, w.is, l.is); within = omega arith }

@@ -5,23 +5,23 @@ use Rattle.text.proofs.Laws.Parts.{part-drop}
 use Rattle.dates.specs.Stamps.{second_half, bracketed}
 use Rattle.dates.proofs.span.skip_bracketed.Goals as goal
 
-pub returns-in_default : goal.returns-in_default
+pub returns-in_err-a : goal.returns-in_err-a
 unfolding bracketed
-returns-in_default c =
-    let no = c.in_default.ensures in
-    record {
+returns-in_err-a c =
+    let no = c.in_err-a.ensures in
+    rw c.from_residual.ensures (record {
       takes = λ b. record {
         is = rw (part-drop c.args.text.now 1 c.args.at c.args.to, no.0.is);
         from = omega arith;
         to = omega arith;
       };
       dates = tt;
-    }
+    })
 
 pub returns-then-range : goal.returns-then-range
 unfolding bracketed second_half
 returns-then-range c =
-    let f = c.in-At.ensures in
+    let f = c.in_ok-a.ensures in
     record {
       takes = λ b. record {
         is = rw (part-drop c.args.text.now 1 c.args.at c.args.to, f.0.is, sym f.1.0 ∙ c.if-range.true);
@@ -31,61 +31,29 @@ returns-then-range c =
       dates = omega arith;
     }
 
-pub returns-in_default-skip_word : goal.returns-in_default-skip_word
+pub returns-in-None : goal.returns-in-None
 unfolding bracketed second_half
-returns-in_default-skip_word c =
-    let f = c.in-At.ensures in
+returns-in-None c =
+    let f = c.in_ok-a.ensures in
     let range = sym f.1.0 ∙ c.if-range.false in
     record {
       takes = λ b. record {
-        is = rw (part-drop c.args.text.now 1 c.args.at c.args.to, f.0.is, range, c.in_default-skip_word.ensures.is);
+        is = rw (part-drop c.args.text.now 1 c.args.at c.args.to, f.0.is, range, c.in-None.ensures.0.is);
         from = omega arith;
         to = omega arith;
       };
       dates = omega arith;
     }
 
-pub returns-in_default-skip_half : goal.returns-in_default-skip_half
+pub returns-in-Some : goal.returns-in-Some
 unfolding bracketed second_half
-returns-in_default-skip_half c =
-    let f = c.in-At.ensures in
+returns-in-Some c =
+    let f = c.in_ok-a.ensures in
     let range = sym f.1.0 ∙ c.if-range.false in
-    let w = c.in-At-skip_word.ensures in
+    let g = c.in-Some.ensures in
     record {
       takes = λ b. record {
-        is = rw (part-drop c.args.text.now 1 c.args.at c.args.to, f.0.is, range, w.is, c.in_default-skip_half.ensures.0.is);
-        from = omega arith;
-        to = omega arith;
-      };
-      dates = omega arith;
-    }
-
-pub returns-then-second_range : goal.returns-then-second_range
-unfolding bracketed second_half
-returns-then-second_range c =
-    let f = c.in-At.ensures in
-    let range = sym f.1.0 ∙ c.if-range.false in
-    let w = c.in-At-skip_word.ensures in
-    let g = c.in-At-skip_half.ensures in
-    record {
-      takes = λ b. record {
-        is = rw (part-drop c.args.text.now 1 c.args.at c.args.to, f.0.is, range, w.is, g.0.is, sym g.1.0 ∙ c.if-second_range.true);
-        from = omega arith;
-        to = omega arith;
-      };
-      dates = omega arith;
-    }
-
-pub returns-else-second_range : goal.returns-else-second_range
-unfolding bracketed second_half
-returns-else-second_range c =
-    let f = c.in-At.ensures in
-    let range = sym f.1.0 ∙ c.if-range.false in
-    let w = c.in-At-skip_word.ensures in
-    let g = c.in-At-skip_half.ensures in
-    record {
-      takes = λ b. record {
-        is = rw (part-drop c.args.text.now 1 c.args.at c.args.to, f.0.is, range, w.is, g.0.is, sym g.1.0 ∙ c.if-second_range.false);
+        is = rw (part-drop c.args.text.now 1 c.args.at c.args.to, f.0.is, range, g.0.is);
         from = omega arith;
         to = omega arith;
       };

@@ -10,46 +10,32 @@ pub returns-then-not-is_date : goal.returns-then-not-is_date
 unfolding half date
 returns-then-not-is_date c = (record { is = rw (sym c.if-not-is_date.ensures.0); within = tt }, tt)
 
-pub returns-in_default : goal.returns-in_default
+pub returns-in_err-end : goal.returns-in_err-end
 unfolding half date
-returns-in_default c =
+returns-in_err-end c =
     let a = c.args in
     let name : after_day_name (part a.text.now (a.at + 10) a.to) ≡ part a.text.now c.skip_day_name-a.result a.to = c.skip_day_name-a.ensures.0 in
     let d = c.if-not-is_date.ensures in
-    let ten = d.1 refl in (
+    let ten = d.1 refl in
+    rw c.from_residual.ensures (
       record {
-        is = rw (sym d.0, part-drop a.text.now 10 a.at a.to, name, c.read_times-times.ensures.is, c.read_repeater-repeats.ensures.is, c.in_default.ensures.is);
+        is = rw (sym d.0, part-drop a.text.now 10 a.at a.to, name, c.read_times-times.ensures.is, c.read_repeater-repeats.ensures.is, c.in_err-end.ensures.is);
         within = tt;
       },
       tt,
     )
 
-pub returns-in-Nothing : goal.returns-in-Nothing
+pub returns : goal.returns
 unfolding half date
-returns-in-Nothing c =
+returns c =
     let a = c.args in
     let name : after_day_name (part a.text.now (a.at + 10) a.to) ≡ part a.text.now c.skip_day_name-a.result a.to = c.skip_day_name-a.ensures.0 in
     let d = c.if-not-is_date.ensures in
     let ten = d.1 refl in
-    let w = c.in-At.ensures in (
+    let w = c.in_ok-end.ensures in (
       record {
         is = rw (sym d.0, part-drop a.text.now 10 a.at a.to, name, c.read_times-times.ensures.is, c.read_repeater-repeats.ensures.is, w.is);
         within = omega arith;
       },
-      (rw (part-drop a.text.now 10 a.at a.to, name, c.read_times-times.ensures.is, c.in-Nothing.is), omega arith),
-    )
-
-pub returns-in-At-until : goal.returns-in-At-until
-unfolding half date
-returns-in-At-until c =
-    let a = c.args in
-    let name : after_day_name (part a.text.now (a.at + 10) a.to) ≡ part a.text.now c.skip_day_name-a.result a.to = c.skip_day_name-a.ensures.0 in
-    let d = c.if-not-is_date.ensures in
-    let ten = d.1 refl in
-    let w = c.in-At.ensures in (
-      record {
-        is = rw (sym d.0, part-drop a.text.now 10 a.at a.to, name, c.read_times-times.ensures.is, c.read_repeater-repeats.ensures.is, w.is);
-        within = omega arith;
-      },
-      (rw (part-drop a.text.now 10 a.at a.to, name, c.read_times-times.ensures.is, c.in-At-until.is), omega arith),
+      (rw (part-drop a.text.now 10 a.at a.to, name, c.read_times-times.ensures.is) c.is_some.ensures, omega arith),
     )

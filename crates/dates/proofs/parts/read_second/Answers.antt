@@ -1,0 +1,18 @@
+-- `dates::parts::read_second` meets its contract, stage by stage.
+-- Assumes nothing.
+use Rattle.std.proofs.Common.{arith}
+use Rattle.text.specs.Runs.{word}
+use Rattle.dates.specs.Stamps.{second_time}
+use Rattle.dates.proofs.Laws.Reads.{ends-from}
+use Rattle.dates.proofs.parts.read_second.Goals as goal
+
+pub returns-in_err-a : goal.returns-in_err-a
+unfolding second_time word
+returns-in_err-a c = rw c.from_residual.ensures (record { is = rw c.in_err-a.ensures.is; within = tt })
+
+pub returns : goal.returns
+unfolding second_time word
+returns c =
+    let g = c.in_ok-a.ensures in
+    let t = c.read_time.ensures in
+    record { is = rw (g.is, t.is); within = ends-from _ _ _ _ (omega arith) t.within }
