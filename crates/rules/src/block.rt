@@ -4,10 +4,10 @@ ghost use Rattle.rules.specs.Names.{number_in};
 ghost use Rattle.rules.specs.Elements.{block, verbatim_names, greater_detail};
 ghost use Rattle.rules.specs.Findings.{InScope, rule_on};
 
-use crate::closer::{Closer, find_closer};
+use crate::closer::find_closer;
 use crate::kind;
 use crate::known::{ANY_NAME, has_name};
-use crate::rule::{Element, Rule};
+use crate::rule::Element;
 use crate::scope::Scope;
 use text::line::LineSpan;
 use text::marks::word_end;
@@ -51,46 +51,43 @@ fn greater_detail(text: &[u8], from: usize, to: usize) -> usize
 }
 
 // A block, where its closer stands before the end.  [01 rule 3]
-pub fn try_block(text: &[u8], line: LineSpan, scope: Scope) -> Rule
+pub fn try_block(text: &[u8], line: LineSpan, scope: Scope) -> Option<Element>
     requires { InScope text.now line scope }
     ensures { result ≡ rule_on block text.now line scope }
 {
     if !begins_with(text, line.from, line.to, b"#+begin_") {
-        return Rule::Fails;
+        return None;
     }
     let name = line.from + 8;
     let to = word_end(text, name, line.to);
     if to == name {
-        return Rule::Fails;
+        return None;
     }
     if scope.names != ANY_NAME && !has_name(scope.names, text, name, to) {
-        return Rule::Fails;
+        return None;
     }
     let inner = line.end;
     let search = find_closer(text, inner, scope.end, b"#+end_", &text[name..to]);
-    let closer = search.closer;
-    let Closer::At { start, end, before } = closer else {
-        return Rule::Fails;
-    };
+    let closer = search.closer?;
     let verbatim = verbatim_detail(text, name, to);
     if 0 < verbatim {
-        return Rule::Holds(Element {
+        return Some(Element {
             kind: kind::VERBATIM_BLOCK,
-            end: end,
-            own: before + 2,
+            end: closer.end,
+            own: closer.before + 2,
             from: inner,
-            to: start,
+            to: closer.start,
             detail: verbatim,
-            lines: before,
+            lines: closer.before,
         });
     }
-    Rule::Holds(Element {
+    Some(Element {
         kind: kind::GREATER_BLOCK,
-        end: end,
-        own: before + 2,
+        end: closer.end,
+        own: closer.before + 2,
         from: inner,
-        to: start,
+        to: closer.start,
         detail: greater_detail(text, name, to),
-        lines: before,
+        lines: closer.before,
     })
 }

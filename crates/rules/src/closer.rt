@@ -7,21 +7,18 @@ ghost use Rattle.rules.specs.Closers.{starts_with, searched};
 use text::bytes::{Class, lower, run_end, trim_end};
 use text::line::line_end;
 
-// The closing line, where there is one: its start, its end, and how many lines stand before it.
+// A closing line: its start, its end, and how many lines stand before it.
 #[derive(Clone, Copy)]
-pub enum Closer {
-    At {
-        start: usize,
-        end: usize,
-        before: usize,
-    },
-    Nothing,
+pub struct Closer {
+    pub start: usize,
+    pub end: usize,
+    pub before: usize,
 }
 
 // What a search for a closer finds, and how many lines it compared further.  [02 order 3]
 #[derive(Clone, Copy)]
 pub struct Search {
-    pub closer: Closer,
+    pub closer: Option<Closer>,
     pub compared: usize,
 }
 
@@ -63,8 +60,8 @@ pub fn find_closer(text: &[u8], from: usize, to: usize, first: &[u8], second: &[
     'lines: loop {
         if to <= at {
             break 'lines Search {
-                closer: Closer::Nothing,
-                compared: compared,
+                closer: None,
+                compared,
             };
         }
         if !starts_with(text, at, to, mark) {
@@ -80,12 +77,12 @@ pub fn find_closer(text: &[u8], from: usize, to: usize, first: &[u8], second: &[
                 let end = line_end(text, body + j, to);
                 if trim_end(text, body + j, end) == body + j {
                     break 'lines Search {
-                        closer: Closer::At {
+                        closer: Some(Closer {
                             start: at,
-                            end: end,
+                            end,
                             before: n,
-                        },
-                        compared: compared,
+                        }),
+                        compared,
                     };
                 }
                 break;

@@ -5,11 +5,11 @@ ghost use Rattle.rules.specs.LineTests.{is_drawer_line};
 ghost use Rattle.rules.specs.Elements.{drawer, property_drawer};
 ghost use Rattle.rules.specs.Findings.{LineOf, InScope, rule_on};
 
-use crate::closer::{Closer, find_end};
+use crate::closer::find_end;
 use crate::kind;
 use crate::place::Place;
 use crate::property::{find_properties_end, is_between_colons};
-use crate::rule::{Element, Rule};
+use crate::rule::Element;
 use crate::scope::Scope;
 use text::bytes::{Class, run_end};
 use text::line::LineSpan;
@@ -27,29 +27,27 @@ fn allows_properties(place: Place) -> bool
 }
 
 // A property drawer: node property lines only, up to the first `:END:`.  [01 rule 2]
-pub fn try_property_drawer(text: &[u8], line: LineSpan, scope: Scope) -> Rule
+pub fn try_property_drawer(text: &[u8], line: LineSpan, scope: Scope) -> Option<Element>
     requires { InScope text.now line scope }
     ensures { result ≡ rule_on (property_drawer scope.place) text.now line scope }
 {
     let place = scope.place;
     if !allows_properties(place) {
-        return Rule::Fails;
+        return None;
     }
     if !is_word(text, line.from, line.to, b":properties:") {
-        return Rule::Fails;
+        return None;
     }
     let inner = line.end;
-    let Closer::At { start, end, before } = find_properties_end(text, inner, scope.end) else {
-        return Rule::Fails;
-    };
-    Rule::Holds(Element {
+    let closer = find_properties_end(text, inner, scope.end)?;
+    Some(Element {
         kind: kind::PROPERTY_DRAWER,
-        end: end,
-        own: before + 2,
+        end: closer.end,
+        own: closer.before + 2,
         from: inner,
-        to: start,
+        to: closer.start,
         detail: 0,
-        lines: before,
+        lines: closer.before,
     })
 }
 
@@ -70,29 +68,26 @@ pub fn is_drawer_line(text: &[u8], line: LineSpan, to: usize) -> bool
 }
 
 // A drawer, where an `:END:` line stands before the end.  [01 rule 4]
-pub fn try_drawer(text: &[u8], line: LineSpan, scope: Scope) -> Rule
+pub fn try_drawer(text: &[u8], line: LineSpan, scope: Scope) -> Option<Element>
     requires { InScope text.now line scope }
     ensures { result ≡ rule_on drawer text.now line scope }
 {
     if !scope.ends {
-        return Rule::Fails;
+        return None;
     }
     if !is_drawer_line(text, line, scope.end) {
-        return Rule::Fails;
+        return None;
     }
     let inner = line.end;
     let search = find_end(text, inner, scope.end);
-    let closer = search.closer;
-    let Closer::At { start, end, before } = closer else {
-        return Rule::Fails;
-    };
-    Rule::Holds(Element {
+    let closer = search.closer?;
+    Some(Element {
         kind: kind::DRAWER,
-        end: end,
-        own: before + 2,
+        end: closer.end,
+        own: closer.before + 2,
         from: inner,
-        to: start,
+        to: closer.start,
         detail: 0,
-        lines: before,
+        lines: closer.before,
     })
 }

@@ -16,7 +16,7 @@ use crate::kind;
 use crate::lines::LineRun;
 use crate::list_element::list_at;
 use crate::place::Place;
-use crate::rule::{Element, Rule};
+use crate::rule::Element;
 use crate::scope::Scope;
 use text::bytes::{Class, is_name, run_end};
 use text::line::{LineSpan, line_at, line_end};
@@ -68,7 +68,7 @@ fn paragraph_lines(text: &[u8], from: usize, scope: Scope) -> Further
                 ends: ends,
                 names: names,
             };
-            if let Rule::Holds(_) = find_rule(text, line, here) {
+            if let Some(_) = find_rule(text, line, here) {
                 break;
             }
             if first == b':' {
@@ -151,7 +151,7 @@ pub fn element_at(text: &[u8], line: LineSpan, scope: Scope) -> Parsed
 {
     let place = scope.place;
     if allows_rules(place) {
-        if let Rule::Holds(e) = find_rule(text, line, scope) {
+        if let Some(e) = find_rule(text, line, scope) {
             return Parsed {
                 element: e,
                 ends: scope.ends,

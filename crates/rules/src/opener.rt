@@ -2,7 +2,7 @@ ghost use Rattle.std.specs.Prelude.{◌≡◌};
 ghost use Rattle.rules.specs.Findings.{LineOf};
 ghost use Rattle.rules.specs.Closers.{no_search, opener_search, search_from};
 
-use crate::closer::{Closer, Search, find_closer, find_end};
+use crate::closer::{Search, find_closer, find_end};
 use crate::drawer::is_drawer_line;
 use text::line::{LineSpan, line_at, starts_line};
 use text::marks::word_end;
@@ -50,7 +50,7 @@ fn no_search() -> Search
     ensures { result ≡ no_search }
 {
     Search {
-        closer: Closer::Nothing,
+        closer: None,
         compared: 0,
     }
 }

@@ -6,7 +6,7 @@ ghost use Rattle.rules.specs.Findings.{LineOf, InScope, rule_on};
 
 use crate::kind;
 use crate::place::Place;
-use crate::rule::{Element, Rule};
+use crate::rule::Element;
 use crate::scope::Scope;
 use text::line::LineSpan;
 
@@ -19,18 +19,18 @@ pub fn is_planning(text: &[u8], line: LineSpan, to: usize) -> bool
 }
 
 // A planning line.  [01 rule 1]
-pub fn try_planning(text: &[u8], line: LineSpan, scope: Scope) -> Rule
+pub fn try_planning(text: &[u8], line: LineSpan, scope: Scope) -> Option<Element>
     requires { InScope text.now line scope }
     ensures { result ≡ rule_on (planning scope.place) text.now line scope }
 {
     let place = scope.place;
     let Place::AfterHeading = place else {
-        return Rule::Fails;
+        return None;
     };
     if !is_planning(text, line, scope.end) {
-        return Rule::Fails;
+        return None;
     }
-    Rule::Holds(Element {
+    Some(Element {
         kind: kind::PLANNING,
         end: line.end,
         own: 1,

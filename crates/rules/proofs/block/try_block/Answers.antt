@@ -4,7 +4,8 @@ use Rattle.std.proofs.Common.{◌≡◌, ◌++◌, ℕ, ◌+◌, ◌≤◌, leng
 use Rattle.text.specs.Runs.{word}
 use Rattle.text.specs.Parts.{part, lines_in}
 use Rattle.text.proofs.Laws.Parts.{part_slice}
-use Rattle.rules.specs.declared.closer.Closer.TheVariants.{At}
+use Rattle.std.specs.declared.option.Option.TheVariants.{Some}
+use Rattle.rules.specs.declared.closer.Closer.{Closer}
 use Rattle.rules.proofs.Laws.LineOf.{line_of-order}
 use Rattle.text.proofs.Laws.LinesIn.{lines_in-length}
 use Rattle.rules.proofs.Laws.LineRules.{lines_before-below, closer-count}
@@ -73,15 +74,16 @@ closer c =
     let n = name-order _ _ _ c.requires.line (sym c.if-not-begins_with.ensures) _ c.word_end-to.ensures in
     rw (part_slice _ _ _ n.0) at (searched-closer _ _ _ _ _ c.find_closer-search.ensures)
 
-pub returns-in_default : goal.returns-in_default
+pub returns-in_err-closer : goal.returns-in_err-closer
 unfolding word
-returns-in_default c =
-    block-open _ _ _ c.requires.line (sym c.if-not-begins_with.ensures) _ c.word_end-to.ensures c.if-to-name.false
-    (closer_at-nothing _ _ _ (sym c.in_default.is ∙ closer (goal.at.returns-in_default c).After-find_closer-search))
+returns-in_err-closer c =
+    c.from_residual.ensures
+    ∙ block-open _ _ _ c.requires.line (sym c.if-not-begins_with.ensures) _ c.word_end-to.ensures c.if-to-name.false
+    (closer_at-nothing _ _ _ (sym c.in_err-closer.was ∙ closer (goal.at.returns-in_err-closer c).After-find_closer-search))
 
 -- so many lines stand before it
-count : (c : After-find_closer-search) (p q n : ℕ) → c.find_closer-search.result.closer ≡ At p q n → n ≤ length c.args.text.now
-count c p q n h =
+count : (c : After-find_closer-search) (d : Closer) → c.find_closer-search.result.closer ≡ Some d → d.before ≤ length c.args.text.now
+count c d h =
     let s = c.args.text.now in
     let l = c.args.line in
     let e = c.args.scope.end in
@@ -89,24 +91,24 @@ count c p q n h =
     let ls = lines_in s l.end e in
     omega (
       arith,
-      closer-count l.end ls _ (lines_before-below _ ls) _ _ _ (sym h ∙ closer c),
+      closer-count l.end ls _ (lines_before-below _ ls) _ (sym h ∙ closer c),
       lines_in-length s l.end e o.4 o.5,
     )
 
 pub overflow_add-result : goal.overflow_add-result
-overflow_add-result c = omega (arith, count (goal.at.overflow_add-result c).After-find_closer-search _ _ _ c.in-At.is)
+overflow_add-result c = omega (arith, count (goal.at.overflow_add-result c).After-find_closer-search _ c.in_ok-closer.was)
 
 pub returns-then-verbatim-gt0 : goal.returns-then-verbatim-gt0
 unfolding word
 returns-then-verbatim-gt0 c =
     block-verbatim _ _ _ c.requires.line (sym c.if-not-begins_with.ensures) _ c.word_end-to.ensures c.if-to-name.false _
-    (sym c.in-At.is ∙ closer (goal.at.returns-then-verbatim-gt0 c).After-find_closer-search) _ c.verbatim_detail-verbatim.ensures c.if-verbatim-gt0.true
+    (sym c.in_ok-closer.was ∙ closer (goal.at.returns-then-verbatim-gt0 c).After-find_closer-search) _ c.verbatim_detail-verbatim.ensures c.if-verbatim-gt0.true
 
 pub overflow_add-result-2 : goal.overflow_add-result-2
-overflow_add-result-2 c = omega (arith, count (goal.at.overflow_add-result-2 c).After-find_closer-search _ _ _ c.in-At.is)
+overflow_add-result-2 c = omega (arith, count (goal.at.overflow_add-result-2 c).After-find_closer-search _ c.in_ok-closer.was)
 
 pub returns : goal.returns
 unfolding word
 returns c =
     block-greater _ _ _ c.requires.line (sym c.if-not-begins_with.ensures) _ c.word_end-to.ensures c.if-to-name.false _
-    (sym c.in-At.is ∙ closer (goal.at.returns c).After-find_closer-search) _ c.verbatim_detail-verbatim.ensures c.if-verbatim-gt0.false _ c.greater_detail.ensures
+    (sym c.in_ok-closer.was ∙ closer (goal.at.returns c).After-find_closer-search) _ c.verbatim_detail-verbatim.ensures c.if-verbatim-gt0.false _ c.greater_detail.ensures

@@ -23,10 +23,11 @@ returns-then-not-is_drawer_line c = drawer-no _ _ _ c.requires.line (sym c.if-no
 pub find_end-search-requires : goal.find_end-search-requires
 find_end-search-requires c = let o = line_of-order _ _ _ c.requires.line in (o.4, o.5)
 
-pub returns-in_default : goal.returns-in_default
-returns-in_default c =
-    drawer-closer _ _ _ c.requires.line (sym c.if-not-is_drawer_line.ensures) _
-    (sym c.in_default.is ∙ searched-closer _ _ _ _ _ c.find_end-search.ensures)
+pub returns-in_err-closer : goal.returns-in_err-closer
+returns-in_err-closer c =
+    c.from_residual.ensures
+    ∙ drawer-closer _ _ _ c.requires.line (sym c.if-not-is_drawer_line.ensures) _
+    (sym c.in_err-closer.was ∙ searched-closer _ _ _ _ _ c.find_end-search.ensures)
 
 pub overflow_add-result : goal.overflow_add-result
 overflow_add-result c =
@@ -35,14 +36,14 @@ overflow_add-result c =
     let e = c.args.scope.end in
     let o = line_of-order _ _ _ c.requires.line in
     let ls = lines_in s l.end e in
-    let closer = sym c.in-At.is ∙ searched-closer _ _ _ _ _ c.find_end-search.ensures in
+    let closer = sym c.in_ok-closer.was ∙ searched-closer _ _ _ _ _ c.find_end-search.ensures in
     omega (
       arith,
-      closer-count l.end ls _ (lines_before-below (word ":end:") ls) _ _ _ closer,
+      closer-count l.end ls _ (lines_before-below (word ":end:") ls) _ closer,
       lines_in-length s l.end e o.4 o.5,
     )
 
 pub returns : goal.returns
 returns c =
     drawer-closer _ _ _ c.requires.line (sym c.if-not-is_drawer_line.ensures) _
-    (sym c.in-At.is ∙ searched-closer _ _ _ _ _ c.find_end-search.ensures)
+    (sym c.in_ok-closer.was ∙ searched-closer _ _ _ _ _ c.find_end-search.ensures)

@@ -32,10 +32,11 @@ returns-then-not-is_word c =
 pub find_properties_end-requires : goal.find_properties_end-requires
 find_properties_end-requires c = let o = line_of-order _ _ _ c.requires.line in (o.4, o.5)
 
-pub returns-in_default : goal.returns-in_default
-returns-in_default c =
-    property_drawer-closer _ _ _ c.requires.line _ (line (goal.at.returns-in_default c).After-is_word ∙ c.if-not-is_word.false) _
-    c.in_default.ensures
+pub returns-in_err-closer : goal.returns-in_err-closer
+returns-in_err-closer c =
+    c.from_residual.ensures
+    ∙ property_drawer-closer _ _ _ c.requires.line _ (line (goal.at.returns-in_err-closer c).After-is_word ∙ c.if-not-is_word.false) _
+    c.in_err-closer.ensures
 
 pub overflow_add-result : goal.overflow_add-result
 overflow_add-result c =
@@ -46,10 +47,10 @@ overflow_add-result c =
     let ls = lines_in s l.end e in
     omega (
       arith,
-      closer-count l.end ls _ (properties_before-below ls) _ _ _ c.in-At.ensures,
+      closer-count l.end ls _ (properties_before-below ls) _ c.in_ok-closer.ensures,
       lines_in-length s l.end e o.4 o.5,
     )
 
 pub returns : goal.returns
 returns c =
-    property_drawer-closer _ _ _ c.requires.line _ (line (goal.at.returns c).After-is_word ∙ c.if-not-is_word.false) _ c.in-At.ensures
+    property_drawer-closer _ _ _ c.requires.line _ (line (goal.at.returns c).After-is_word ∙ c.if-not-is_word.false) _ c.in_ok-closer.ensures

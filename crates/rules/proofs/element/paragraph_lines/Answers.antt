@@ -71,11 +71,11 @@ find_rule-requires c =
     let at-line = (goal.at.find_rule-requires c).After-line_at-line in
     record { line = line at-line; known = known at-line }
 
-pub returns-in-Holds : goal.returns-in-Holds
-returns-in-Holds c =
+pub returns-in-Some : goal.returns-in-Some
+returns-in-Some c =
     let inv = c.loop-at.invariant in
-    let at-line = (goal.at.returns-in-Holds c).After-line_at-line in
-    (sym (rw (here at-line) at (paragraph-stop _ _ _ (line at-line) _ c.find_rule.ensures c.loop-at.n _ c.in-Holds.is)) ∙ inv.run, inv.known)
+    let at-line = (goal.at.returns-in-Some c).After-line_at-line in
+    (sym (rw (here at-line) at (paragraph-stop _ _ _ (line at-line) _ c.find_rule.ensures c.loop-at.n _ c.in-Some.is)) ∙ inv.run, inv.known)
 
 -- ---- what is known after it
 
