@@ -40,10 +40,7 @@ fn starts_with(text: &[u8], at: usize, to: usize, mark: u8) -> bool
     ensures { result ≡ starts_with mark (line_in text.now at to) }
 {
     let first = run_end(text, at, to, Class::Blank);
-    if to <= first {
-        return false;
-    }
-    lower(text[first]) == mark
+    first < to && lower(text[first]) == mark
 }
 
 // The first line up to an end whose body is `first` and then `second`, case ignored. Only a line whose first non-blank byte is the closer's is

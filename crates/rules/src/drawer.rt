@@ -16,14 +16,11 @@ use text::line::LineSpan;
 use text::word::is_word;
 
 // Whether a place allows a property drawer.
+#[tactic(auto, unfolding(crate::specs::Places::allows_properties))]
 fn allows_properties(place: Place) -> bool
     ensures { result ≡ allows_properties place }
 {
-    match place {
-        Place::Elsewhere => false,
-        Place::InLine => false,
-        _ => true,
-    }
+    !matches!(place, Place::Elsewhere | Place::InLine)
 }
 
 // A property drawer: node property lines only, up to the first `:END:`.  [01 rule 2]
@@ -31,24 +28,11 @@ pub fn try_property_drawer(text: &[u8], line: LineSpan, scope: Scope) -> Option<
     requires { InScope text.now line scope }
     ensures { result ≡ rule_on (property_drawer scope.place) text.now line scope }
 {
-    let place = scope.place;
-    if !allows_properties(place) {
+    if !allows_properties(scope.place) || !is_word(text, line.from, line.to, b":properties:") {
         return None;
     }
-    if !is_word(text, line.from, line.to, b":properties:") {
-        return None;
-    }
-    let inner = line.end;
-    let closer = find_properties_end(text, inner, scope.end)?;
-    Some(Element {
-        kind: kind::PROPERTY_DRAWER,
-        end: closer.end,
-        own: closer.before + 2,
-        from: inner,
-        to: closer.start,
-        detail: 0,
-        lines: closer.before,
-    })
+    let closer = find_properties_end(text, line.end, scope.end)?;
+    Some(Element::of_lines_between(kind::PROPERTY_DRAWER, line.end, closer, 0))
 }
 
 // Whether a line's body is `:NAME:`, and NAME is not `END`.
@@ -72,22 +56,9 @@ pub fn try_drawer(text: &[u8], line: LineSpan, scope: Scope) -> Option<Element>
     requires { InScope text.now line scope }
     ensures { result ≡ rule_on drawer text.now line scope }
 {
-    if !scope.ends {
+    if !scope.ends || !is_drawer_line(text, line, scope.end) {
         return None;
     }
-    if !is_drawer_line(text, line, scope.end) {
-        return None;
-    }
-    let inner = line.end;
-    let search = find_end(text, inner, scope.end);
-    let closer = search.closer?;
-    Some(Element {
-        kind: kind::DRAWER,
-        end: closer.end,
-        own: closer.before + 2,
-        from: inner,
-        to: closer.start,
-        detail: 0,
-        lines: closer.before,
-    })
+    let closer = find_end(text, line.end, scope.end).closer?;
+    Some(Element::of_lines_between(kind::DRAWER, line.end, closer, 0))
 }

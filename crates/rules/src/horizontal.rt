@@ -19,13 +19,5 @@ pub fn try_horizontal_rule(text: &[u8], line: LineSpan, scope: Scope) -> Option<
     if run_end(text, line.from, line.to, Class::Hyphen) < line.to {
         return None;
     }
-    Some(Element {
-        kind: kind::HORIZONTAL_RULE,
-        end: line.end,
-        own: 1,
-        from: line.from,
-        to: line.to,
-        detail: 0,
-        lines: 0,
-    })
+    Some(Element::of_line(kind::HORIZONTAL_RULE, line, line.from))
 }

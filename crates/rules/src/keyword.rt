@@ -17,14 +17,12 @@ fn after_last_colon(text: &[u8], from: usize, to: usize) -> usize
     requires { (from ≤ to) × (to ≤ length text.now) }
     ensures { result ≡ from + length (through_colon (part text.now from to)) }
 {
-    let mut i = to;
-    while from < i {
-        if text[i - 1] == b':' {
-            return i;
+    for i in (from..to).rev() {
+        if text[i] == b':' {
+            return i + 1;
         }
-        i -= 1;
     }
-    i
+    from
 }
 
 // A keyword.  [01 rule 9]
@@ -40,13 +38,6 @@ pub fn try_keyword(text: &[u8], line: LineSpan, scope: Scope) -> Option<Element>
     if marker - line.from < 4 {
         return None;
     }
-    Some(Element {
-        kind: kind::KEYWORD,
-        end: line.end,
-        own: 1,
-        from: run_end(text, marker, line.to, Class::Blank),
-        to: line.to,
-        detail: 0,
-        lines: 0,
-    })
+    let value = run_end(text, marker, line.to, Class::Blank);
+    Some(Element::of_line(kind::KEYWORD, line, value))
 }

@@ -29,16 +29,7 @@ fn is_marked(text: &[u8], at: usize, to: usize, c: u8) -> bool
     requires { (to ≤ length text.now) × (is_non_blank c ≡ true) }
     ensures { result ≡ is_marked c (trim_end (line_in text.now at to)) }
 {
-    if to <= at {
-        return false;
-    }
-    if text[at] != c {
-        return false;
-    }
-    if to <= at + 1 {
-        return true;
-    }
-    !is_nonblank(text[at + 1])
+    at < to && text[at] == c && (to <= at + 1 || !is_nonblank(text[at + 1]))
 }
 
 // Whether the line whose body starts at a byte is of a class: its first bytes tell, wherever it ends.
@@ -102,7 +93,13 @@ pub fn try_table(text: &[u8], line: LineSpan, scope: Scope) -> Option<Element>
 }
 
 // A comment or a fixed-width area: the run of lines of a class, as an element of a kind.  [01 rules 6 and 7]
-pub fn try_run(text: &[u8], line: LineSpan, scope: Scope, class: LineClass, kind: usize) -> Option<Element>
+pub fn try_run(
+    text: &[u8],
+    line: LineSpan,
+    scope: Scope,
+    class: LineClass,
+    kind: usize,
+) -> Option<Element>
     requires { InScope text.now line scope × (inner_of kind ≡ ownLines) }
     ensures { result ≡ rule_on (run_of (line_test class) kind) text.now line scope }
 {
@@ -110,13 +107,5 @@ pub fn try_run(text: &[u8], line: LineSpan, scope: Scope, class: LineClass, kind
         return None;
     }
     let run = lines_end(text, line.end, scope.end, class);
-    Some(Element {
-        kind: kind,
-        end: run.end,
-        own: run.lines + 1,
-        from: line.start,
-        to: run.end,
-        detail: 0,
-        lines: 0,
-    })
+    Some(Element::of_run(kind, line.start, run))
 }

@@ -13,13 +13,7 @@ use text::word::begins_with;
 pub fn search_from(text: &[u8], at: usize, to: usize) -> Search
     ensures { result ≡ search_from text.now at to }
 {
-    if text.len() < to {
-        return no_search();
-    }
-    if to <= at {
-        return no_search();
-    }
-    if !starts_line(text, at) {
+    if text.len() < to || to <= at || !starts_line(text, at) {
         return no_search();
     }
     let line = line_at(text, at, to);
