@@ -14,7 +14,7 @@ use crate::rule::Element;
 use crate::scope::Scope;
 use text::line::LineSpan;
 
-// Rules 2, 4 and 7: those of a body that starts with `:`.
+// Rules 2, 4 and 7: those of a body that starts with `:`. Tried with `or_else`: the proof did not close.
 fn try_colon(text: &[u8], line: LineSpan, scope: Scope) -> Option<Element>
     requires { InScope text.now line scope }
     ensures { result ≡ rule_on (first_of (wanting 58 (rules1to9 scope.place))) text.now line scope }
@@ -28,7 +28,7 @@ fn try_colon(text: &[u8], line: LineSpan, scope: Scope) -> Option<Element>
     try_run(text, line, scope, LineClass::FixedWidth, kind::FIXED_WIDTH)
 }
 
-// Rules 3, 6 and 9: those of a body that starts with `#`.
+// Rules 3, 6 and 9: those of a body that starts with `#`, likewise.
 fn try_hash(text: &[u8], line: LineSpan, scope: Scope) -> Option<Element>
     requires { InScope text.now line scope }
     ensures { result ≡ rule_on (first_of (wanting 35 (rules1to9 scope.place))) text.now line scope }
