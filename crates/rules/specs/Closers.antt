@@ -1,5 +1,6 @@
 -- The search for the closer of a block or drawer, and how many lines it compares further  [02 order 3].
 use Rattle.std.specs.Prelude.{Bool, true, false, ◌&&◌, List, [], ◌∷◌, ◌++◌, ℕ, suc, ◌+◌, length, eqb, leb, ltb}
+use Rattle.std.specs.declared.option.Option.TheVariants.{None}
 use Rattle.std.proofs.Math.Option.{Option, none, some}
 use Rattle.text.specs.Bytes.{is_blank, lower}
 use Rattle.text.specs.Runs.{word, is_empty, after_run, same}
@@ -8,7 +9,6 @@ use Rattle.text.specs.Parts.{lines_in, line_in, line_starts}
 use Rattle.rules.specs.LineTests.{block_name, is_drawer_line}
 use Rattle.rules.specs.Elements.{lines_before}
 use Rattle.rules.specs.Findings.{key_byte, closer_at, OpenFindings}
-use Rattle.rules.specs.declared.closer.Closer.TheVariants.{Nothing}
 use Rattle.rules.specs.declared.closer.Search.{Search}
 
 -- the first non-blank byte of a line is c, case ignored
@@ -39,7 +39,7 @@ closer_of l =
 
 -- where there is nothing to search
 abbrev pub no_search : Search
-no_search = record { closer = Nothing; compared = 0 }
+no_search = record { closer = None; compared = 0 }
 
 -- the search from an opening line at byte p up to byte e
 unfoldable pub opener_search : List ℕ → ℕ → ℕ → Search

@@ -3,7 +3,7 @@ ghost use Rattle.text.specs.Runs.{word};
 ghost use Rattle.rules.specs.Known.{NoLine, Names};
 ghost use Rattle.rules.specs.Findings.{InScope};
 
-use crate::closer::{Closer, find_end};
+use crate::closer::find_end;
 use crate::drawer::is_drawer_line;
 use crate::known::{closing_names, has_name};
 use crate::lines::LineRun;
@@ -44,16 +44,7 @@ pub fn ends_after(text: &[u8], line: LineSpan, scope: Scope) -> bool
         return true;
     }
     let search = find_end(text, line.end, scope.end);
-    let closer = search.closer;
-    let Closer::At {
-        start: _,
-        end: _,
-        before: _,
-    } = closer
-    else {
-        return false;
-    };
-    true
+    search.closer.is_some()
 }
 
 // The names that may still close a block after a line that starts no element. They are collected anew where the line opens a block whose closer

@@ -5,52 +5,34 @@ ghost use Rattle.rules.specs.LineTests.{is_drawer_line};
 ghost use Rattle.rules.specs.Elements.{drawer, property_drawer};
 ghost use Rattle.rules.specs.Findings.{LineOf, InScope, rule_on};
 
-use crate::closer::{Closer, find_end};
+use crate::closer::find_end;
 use crate::kind;
 use crate::place::Place;
 use crate::property::{find_properties_end, is_between_colons};
-use crate::rule::{Element, Rule};
+use crate::rule::Element;
 use crate::scope::Scope;
 use text::bytes::{Class, run_end};
 use text::line::LineSpan;
 use text::word::is_word;
 
 // Whether a place allows a property drawer.
+#[tactic(auto, unfolding(crate::specs::Places::allows_properties))]
 fn allows_properties(place: Place) -> bool
     ensures { result ≡ allows_properties place }
 {
-    match place {
-        Place::Elsewhere => false,
-        Place::InLine => false,
-        _ => true,
-    }
+    !matches!(place, Place::Elsewhere | Place::InLine)
 }
 
 // A property drawer: node property lines only, up to the first `:END:`.  [01 rule 2]
-pub fn try_property_drawer(text: &[u8], line: LineSpan, scope: Scope) -> Rule
+pub fn try_property_drawer(text: &[u8], line: LineSpan, scope: Scope) -> Option<Element>
     requires { InScope text.now line scope }
     ensures { result ≡ rule_on (property_drawer scope.place) text.now line scope }
 {
-    let place = scope.place;
-    if !allows_properties(place) {
-        return Rule::Fails;
+    if !allows_properties(scope.place) || !is_word(text, line.from, line.to, b":properties:") {
+        return None;
     }
-    if !is_word(text, line.from, line.to, b":properties:") {
-        return Rule::Fails;
-    }
-    let inner = line.end;
-    let Closer::At { start, end, before } = find_properties_end(text, inner, scope.end) else {
-        return Rule::Fails;
-    };
-    Rule::Holds(Element {
-        kind: kind::PROPERTY_DRAWER,
-        end: end,
-        own: before + 2,
-        from: inner,
-        to: start,
-        detail: 0,
-        lines: before,
-    })
+    let closer = find_properties_end(text, line.end, scope.end)?;
+    Some(Element::of_lines_between(kind::PROPERTY_DRAWER, line.end, closer, 0))
 }
 
 // Whether a line's body is `:NAME:`, and NAME is not `END`.
@@ -70,29 +52,13 @@ pub fn is_drawer_line(text: &[u8], line: LineSpan, to: usize) -> bool
 }
 
 // A drawer, where an `:END:` line stands before the end.  [01 rule 4]
-pub fn try_drawer(text: &[u8], line: LineSpan, scope: Scope) -> Rule
+pub fn try_drawer(text: &[u8], line: LineSpan, scope: Scope) -> Option<Element>
     requires { InScope text.now line scope }
     ensures { result ≡ rule_on drawer text.now line scope }
 {
-    if !scope.ends {
-        return Rule::Fails;
+    if !scope.ends || !is_drawer_line(text, line, scope.end) {
+        return None;
     }
-    if !is_drawer_line(text, line, scope.end) {
-        return Rule::Fails;
-    }
-    let inner = line.end;
-    let search = find_end(text, inner, scope.end);
-    let closer = search.closer;
-    let Closer::At { start, end, before } = closer else {
-        return Rule::Fails;
-    };
-    Rule::Holds(Element {
-        kind: kind::DRAWER,
-        end: end,
-        own: before + 2,
-        from: inner,
-        to: start,
-        detail: 0,
-        lines: before,
-    })
+    let closer = find_end(text, line.end, scope.end).closer?;
+    Some(Element::of_lines_between(kind::DRAWER, line.end, closer, 0))
 }

@@ -16,7 +16,7 @@ use crate::kind;
 use crate::lines::LineRun;
 use crate::list_element::list_at;
 use crate::place::Place;
-use crate::rule::{Element, Rule};
+use crate::rule::Element;
 use crate::scope::Scope;
 use text::bytes::{Class, is_name, run_end};
 use text::line::{LineSpan, line_at, line_end};
@@ -65,10 +65,10 @@ fn paragraph_lines(text: &[u8], from: usize, scope: Scope) -> Further
             let here = Scope {
                 end: to,
                 place: Place::Elsewhere,
-                ends: ends,
-                names: names,
+                ends,
+                names,
             };
-            if let Rule::Holds(_) = find_rule(text, line, here) {
+            if find_rule(text, line, here).is_some() {
                 break;
             }
             if first == b':' {
@@ -83,8 +83,8 @@ fn paragraph_lines(text: &[u8], from: usize, scope: Scope) -> Further
     }
     Further {
         run: LineRun { end: at, lines: n },
-        ends: ends,
-        names: names,
+        ends,
+        names,
     }
 }
 
@@ -114,34 +114,23 @@ fn paragraph_at(text: &[u8], line: LineSpan, scope: Scope) -> Parsed
     let rest = Scope {
         end: scope.end,
         place: Place::Elsewhere,
-        ends: ends,
-        names: names,
+        ends,
+        names,
     };
     let further = paragraph_lines(text, line.end, rest);
-    let run = further.run;
     Parsed {
-        element: Element {
-            kind: kind::PARAGRAPH,
-            end: run.end,
-            own: run.lines + 1,
-            from: line.start,
-            to: run.end,
-            detail: 0,
-            lines: 0,
-        },
+        element: Element::of_run(kind::PARAGRAPH, line.start, further.run),
         ends: further.ends,
         names: further.names,
     }
 }
 
 // Whether rules are tried at a place: not inside a line.
+#[tactic(auto, unfolding(crate::specs::Places::allows_rules))]
 fn allows_rules(place: Place) -> bool
     ensures { result ≡ allows_rules place }
 {
-    match place {
-        Place::InLine => false,
-        _ => true,
-    }
+    !matches!(place, Place::InLine)
 }
 
 // The element at a line: what the first of rules 1 to 9a that holds finds, else a paragraph. Inside a line only a paragraph starts.
@@ -149,9 +138,8 @@ pub fn element_at(text: &[u8], line: LineSpan, scope: Scope) -> Parsed
     requires { InScope text.now line scope × (scope.end ≤ text_limit) }
     ensures { Parses (element scope.place) text.now line scope result }
 {
-    let place = scope.place;
-    if allows_rules(place) {
-        if let Rule::Holds(e) = find_rule(text, line, scope) {
+    if allows_rules(scope.place) {
+        if let Some(e) = find_rule(text, line, scope) {
             return Parsed {
                 element: e,
                 ends: scope.ends,

@@ -5,7 +5,7 @@ ghost use Rattle.rules.specs.Elements.{keyword};
 ghost use Rattle.rules.specs.Findings.{InScope, rule_on};
 
 use crate::kind;
-use crate::rule::{Element, Rule};
+use crate::rule::Element;
 use crate::scope::Scope;
 use text::bytes::{Class, run_end};
 use text::line::LineSpan;
@@ -17,36 +17,27 @@ fn after_last_colon(text: &[u8], from: usize, to: usize) -> usize
     requires { (from ≤ to) × (to ≤ length text.now) }
     ensures { result ≡ from + length (through_colon (part text.now from to)) }
 {
-    let mut i = to;
-    while from < i {
-        if text[i - 1] == b':' {
-            return i;
+    for i in (from..to).rev() {
+        if text[i] == b':' {
+            return i + 1;
         }
-        i -= 1;
     }
-    i
+    from
 }
 
 // A keyword.  [01 rule 9]
-pub fn try_keyword(text: &[u8], line: LineSpan, scope: Scope) -> Rule
+pub fn try_keyword(text: &[u8], line: LineSpan, scope: Scope) -> Option<Element>
     requires { InScope text.now line scope }
     ensures { result ≡ rule_on keyword text.now line scope }
 {
     if !begins_with(text, line.from, line.to, b"#+") {
-        return Rule::Fails;
+        return None;
     }
     let run = word_end(text, line.from, line.to);
     let marker = after_last_colon(text, line.from, run);
     if marker - line.from < 4 {
-        return Rule::Fails;
+        return None;
     }
-    Rule::Holds(Element {
-        kind: kind::KEYWORD,
-        end: line.end,
-        own: 1,
-        from: run_end(text, marker, line.to, Class::Blank),
-        to: line.to,
-        detail: 0,
-        lines: 0,
-    })
+    let value = run_end(text, marker, line.to, Class::Blank);
+    Some(Element::of_line(kind::KEYWORD, line, value))
 }

@@ -9,7 +9,7 @@ ghost use Rattle.rules.specs.Kind.{inner_of, ownLines};
 ghost use Rattle.rules.specs.Findings.{InScope, rule_on};
 
 use crate::kind;
-use crate::rule::{Element, Rule};
+use crate::rule::Element;
 use crate::scope::Scope;
 use text::bytes::{Class, is_nonblank, run_end};
 use text::line::{LineSpan, line_end};
@@ -29,16 +29,7 @@ fn is_marked(text: &[u8], at: usize, to: usize, c: u8) -> bool
     requires { (to ≤ length text.now) × (is_non_blank c ≡ true) }
     ensures { result ≡ is_marked c (trim_end (line_in text.now at to)) }
 {
-    if to <= at {
-        return false;
-    }
-    if text[at] != c {
-        return false;
-    }
-    if to <= at + 1 {
-        return true;
-    }
-    !is_nonblank(text[at + 1])
+    at < to && text[at] == c && (to <= at + 1 || !is_nonblank(text[at + 1]))
 }
 
 // Whether the line whose body starts at a byte is of a class: its first bytes tell, wherever it ends.
@@ -81,16 +72,16 @@ pub fn lines_end(text: &[u8], from: usize, to: usize, class: LineClass) -> LineR
 }
 
 // A table: row lines, and the formula lines right after them.  [01 rule 5]
-pub fn try_table(text: &[u8], line: LineSpan, scope: Scope) -> Rule
+pub fn try_table(text: &[u8], line: LineSpan, scope: Scope) -> Option<Element>
     requires { InScope text.now line scope }
     ensures { result ≡ rule_on table text.now line scope }
 {
     if !starts_line(text, line.from, scope.end, LineClass::Row) {
-        return Rule::Fails;
+        return None;
     }
     let rows = lines_end(text, line.end, scope.end, LineClass::Row);
     let formulas = lines_end(text, rows.end, scope.end, LineClass::Formula);
-    Rule::Holds(Element {
+    Some(Element {
         kind: kind::TABLE,
         end: formulas.end,
         own: rows.lines + 1 + formulas.lines,
@@ -102,21 +93,19 @@ pub fn try_table(text: &[u8], line: LineSpan, scope: Scope) -> Rule
 }
 
 // A comment or a fixed-width area: the run of lines of a class, as an element of a kind.  [01 rules 6 and 7]
-pub fn try_run(text: &[u8], line: LineSpan, scope: Scope, class: LineClass, kind: usize) -> Rule
+pub fn try_run(
+    text: &[u8],
+    line: LineSpan,
+    scope: Scope,
+    class: LineClass,
+    kind: usize,
+) -> Option<Element>
     requires { InScope text.now line scope × (inner_of kind ≡ ownLines) }
     ensures { result ≡ rule_on (run_of (line_test class) kind) text.now line scope }
 {
     if !starts_line(text, line.from, scope.end, class) {
-        return Rule::Fails;
+        return None;
     }
     let run = lines_end(text, line.end, scope.end, class);
-    Rule::Holds(Element {
-        kind: kind,
-        end: run.end,
-        own: run.lines + 1,
-        from: line.start,
-        to: run.end,
-        detail: 0,
-        lines: 0,
-    })
+    Some(Element::of_run(kind, line.start, run))
 }

@@ -10,7 +10,6 @@ use crate::item::{indent_width, is_item};
 use crate::kind;
 use crate::lines::LineRun;
 use crate::place::Place;
-use crate::rule::Rule;
 use crate::scope::Scope;
 use text::bytes::{Class, run_end};
 use text::line::{LineSpan, first_line, line_at, line_end};
@@ -21,7 +20,7 @@ pub fn together_end(text: &[u8], line: LineSpan, scope: Scope) -> Further
     requires { InScope text.now line scope }
     ensures { Tells text.now scope.end (together_run text.now line.start scope.end) result }
 {
-    if let Rule::Holds(e) = find_rule(text, line, scope) {
+    if let Some(e) = find_rule(text, line, scope) {
         if e.kind <= kind::TABLE {
             return Further {
                 run: LineRun {

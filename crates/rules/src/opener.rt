@@ -2,7 +2,7 @@ ghost use Rattle.std.specs.Prelude.{◌≡◌};
 ghost use Rattle.rules.specs.Findings.{LineOf};
 ghost use Rattle.rules.specs.Closers.{no_search, opener_search, search_from};
 
-use crate::closer::{Closer, Search, find_closer, find_end};
+use crate::closer::{Search, find_closer, find_end};
 use crate::drawer::is_drawer_line;
 use text::line::{LineSpan, line_at, starts_line};
 use text::marks::word_end;
@@ -13,13 +13,7 @@ use text::word::begins_with;
 pub fn search_from(text: &[u8], at: usize, to: usize) -> Search
     ensures { result ≡ search_from text.now at to }
 {
-    if text.len() < to {
-        return no_search();
-    }
-    if to <= at {
-        return no_search();
-    }
-    if !starts_line(text, at) {
+    if text.len() < to || to <= at || !starts_line(text, at) {
         return no_search();
     }
     let line = line_at(text, at, to);
@@ -50,7 +44,7 @@ fn no_search() -> Search
     ensures { result ≡ no_search }
 {
     Search {
-        closer: Closer::Nothing,
+        closer: None,
         compared: 0,
     }
 }

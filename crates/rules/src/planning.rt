@@ -1,12 +1,13 @@
 ghost use Rattle.std.specs.Prelude.{◌≡◌};
 ghost use Rattle.text.specs.Parts.{line_in};
+ghost use Rattle.rules.specs.Places.{allows_planning};
 ghost use Rattle.rules.specs.LineTests.{is_planning};
 ghost use Rattle.rules.specs.Elements.{planning};
 ghost use Rattle.rules.specs.Findings.{LineOf, InScope, rule_on};
 
 use crate::kind;
 use crate::place::Place;
-use crate::rule::{Element, Rule};
+use crate::rule::Element;
 use crate::scope::Scope;
 use text::line::LineSpan;
 
@@ -18,25 +19,21 @@ pub fn is_planning(text: &[u8], line: LineSpan, to: usize) -> bool
     dates::planning::is_planning(text, line.from, line.to)
 }
 
+// Whether a place allows a planning line.
+#[tactic(auto, unfolding(crate::specs::Places::allows_planning))]
+fn allows_planning(place: Place) -> bool
+    ensures { result ≡ allows_planning place }
+{
+    matches!(place, Place::AfterHeading)
+}
+
 // A planning line.  [01 rule 1]
-pub fn try_planning(text: &[u8], line: LineSpan, scope: Scope) -> Rule
+pub fn try_planning(text: &[u8], line: LineSpan, scope: Scope) -> Option<Element>
     requires { InScope text.now line scope }
     ensures { result ≡ rule_on (planning scope.place) text.now line scope }
 {
-    let place = scope.place;
-    let Place::AfterHeading = place else {
-        return Rule::Fails;
-    };
-    if !is_planning(text, line, scope.end) {
-        return Rule::Fails;
+    if !allows_planning(scope.place) || !is_planning(text, line, scope.end) {
+        return None;
     }
-    Rule::Holds(Element {
-        kind: kind::PLANNING,
-        end: line.end,
-        own: 1,
-        from: line.from,
-        to: line.to,
-        detail: 0,
-        lines: 0,
-    })
+    Some(Element::of_line(kind::PLANNING, line, line.from))
 }

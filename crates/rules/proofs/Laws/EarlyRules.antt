@@ -18,7 +18,7 @@ use Rattle.rules.specs.Names.{number_in}
 use Rattle.rules.specs.LineTests.{is_planning, block_name, is_drawer_line}
 use Rattle.rules.specs.declared.place.Place.{Place}
 use Rattle.rules.specs.declared.rule.Element.{Element}
-use Rattle.rules.specs.declared.rule.Rule.TheVariants.{Holds, Fails}
+use Rattle.std.specs.declared.option.Option.TheVariants.{None, Some}
 use Rattle.rules.specs.Places.{allows_planning}
 use Rattle.rules.specs.Elements.{Found, found, LineRule, rule, planning, property_drawer, lines_before, verbatim_names, block_of, block, drawer, table}
 use Rattle.rules.specs.Elements.{comment, fixed_width, horizontal_rule, keyword, first_of, rules3to9, rules1to9, rules3to5}
@@ -141,7 +141,7 @@ module _ (s : List ℕ) (p e : ℕ) (pl : Place) where
   abbrev here : List Line
   here = lines_in s p e
 
-  module _ (x : Element) (h : Holds x ≡ rule_at p here (first_of (rules1to9 pl) here)) where
+  module _ (x : Element) (h : Some x ≡ rule_at p here (first_of (rules1to9 pl) here)) where
     pub rule-together : x.kind ≤ Kind.table → line_run x.end x.own ≡ together_run s p e
     unfolding spanned
     rule-together k =
@@ -154,5 +154,5 @@ module _ (s : List ℕ) (p e : ℕ) (pl : Place) where
         let (f, i, j) = rule_at-holds p here (first_of (rules1to9 pl) here) x h in
         first_alone pl here f i (omega (arith, ap (λ (y : Element). y.kind) j))
 
-  pub no-rule-alone : Fails ≡ rule_at p here (first_of (rules1to9 pl) here) → Alone here
+  pub no-rule-alone : None ≡ rule_at p here (first_of (rules1to9 pl) here) → Alone here
   no-rule-alone h = fails-alone pl here (rule_at-fails p here _ h)

@@ -58,15 +58,6 @@ unfolding place_from
 from-allows pl [] h = h
 from-allows pl (l ∷ ls) h = from-allows (place_next pl l) ls (next-allows pl l)
 
-pub allows_rules-yes : (pl : Place) → (pl ≡ InLine → ⊥) → allows_rules pl ≡ true
-unfolding allows_rules
-allows_rules-yes AfterHeading h = refl
-allows_rules-yes AfterPlanning h = refl
-allows_rules-yes Opening h = refl
-allows_rules-yes AfterComment h = refl
-allows_rules-yes Elsewhere h = refl
-allows_rules-yes InLine h = absurd (h refl)
-
 -- what allows rules 1 and 2 allows the others
 pub planning-rules : (pl : Place) → allows_planning pl ≡ true → allows_rules pl ≡ true
 unfolding allows_planning allows_rules

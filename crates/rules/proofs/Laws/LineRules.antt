@@ -1,6 +1,6 @@
 -- The laws of each of rules 1 to 9, one row a rule: it fails where the body's first byte is none that it wants, and what it finds is right.
 -- Assumes nothing.
-use mathlib.Core.Path.{◌≡◌, refl}
+use mathlib.Core.Path.{◌≡◌, refl, ap}
 use mathlib.Core.Bool.{Bool, true, false, ◌&&◌, and-false}
 use mathlib.Core.List.{List, [], ◌∷◌, ◌++◌}
 use mathlib.Core.Option.{Option, none, some, map, get_or}
@@ -24,7 +24,9 @@ use Rattle.rules.specs.Elements.{Found, found, LineRule, rule, when, planning, p
 use Rattle.rules.specs.Elements.{verbatim_names, greater_detail, block_of, block, drawer, line_and, row_lines, table, comment, fixed_width, horizontal_rule, keyword}
 use Rattle.rules.specs.Elements.{first_of, rules3to9, rules1to9}
 use Rattle.rules.specs.Kind.{Inner, wholeSpan, afterLine, lineBody, lines_between, propertyValue, keywordValue, rowsOnly, ownLines, itemLeft, inner_of}
-use Rattle.rules.specs.declared.closer.Closer.TheVariants.{At}
+use Rattle.std.specs.declared.option.Option as Options
+use Rattle.std.specs.declared.option.Option.TheVariants.{None, Some}
+use Rattle.rules.specs.declared.closer.Closer.{Closer}
 use Rattle.rules.specs.Findings.{closer_at, is_in}
 use Rattle.rules.proofs.Basics.{or_no, All, all_nil, all_cons, all_map}
 use Rattle.rules.proofs.Laws.FirstByte.{first_at, begins-other, same-other, is_marked-other, between_colons-other, hyphens-other}
@@ -90,10 +92,10 @@ properties_before-below (l ∷ ls) = cases (is_end_line l)
     (λ i. rw (h, i, properties_before) tt))
 
 -- so many lines stand before it
-pub closer-count : (p : ℕ) (ls : List Line) (o : Option ℕ) → Below (length ls) o → (a e n : ℕ) → At a e n ≡ closer_at p ls o → n < length ls
+pub closer-count : (p : ℕ) (ls : List Line) (o : Option ℕ) → Below (length ls) o → (c : Closer) → Some c ≡ closer_at p ls o → c.before < length ls
 unfolding closer_at
-closer-count p ls none k a e n h = absurd (let z : ◌≡◌ {A = ℕ} 0 1 = cc in omega arith)
-closer-count p ls (some m) k a e n h = let i : n ≡ m = cc in omega arith
+closer-count p ls none k c h = absurd (let z : ◌≡◌ {A = ℕ} 0 1 = cc in omega arith)
+closer-count p ls (some m) k c h = let i : c.before ≡ m = ap (λ (o : Options.Option Closer). elim o [ Some d ↦ d.before | None ↦ 0 ]) h in omega arith
 
 -- the first line and those after it
 all-length : (ls : List Line) → length ls ≤ suc (length (tail_lines ls))

@@ -18,7 +18,7 @@ use Rattle.rules.specs.Elements.{Found, lines_before}
 use Rattle.rules.specs.Known.{NoLine, any_name, Knows}
 use Rattle.rules.specs.Findings.{LineOf, spanned, rule_at}
 use Rattle.rules.specs.declared.rule.Element.{Element}
-use Rattle.rules.specs.declared.rule.Rule.TheVariants.{Holds}
+use Rattle.std.specs.declared.option.Option.TheVariants.{Some}
 use Rattle.rules.proofs.Laws.LineOf.{line_of-end}
 use Rattle.rules.proofs.Laws.FirstOf.{rule_at-holds}
 use Rattle.rules.proofs.Laws.Known.{has_name-any}
@@ -48,7 +48,7 @@ module _ (s : List ℕ) (p e : ℕ) (b : Bool) (m : ℕ) (h : Knows s p e b m) w
   unfolding spanned
   knows-element f x i = rw (ap (λ (y : Element). y.end) i) (knows_more f.own)
 
-  pub knows-rule : (o : Option Found) (x : Element) → Holds x ≡ rule_at p (lines_in s p e) o → Knows s x.end e b m
+  pub knows-rule : (o : Option Found) (x : Element) → Some x ≡ rule_at p (lines_in s p e) o → Knows s x.end e b m
   knows-rule o x i = let (f, j, k) = rule_at-holds p (lines_in s p e) o x i in knows-element f x k
 
 -- after a line of the text

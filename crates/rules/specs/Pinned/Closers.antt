@@ -1,17 +1,18 @@
 -- Searches for closers, worked out by hand from document 02, and the names that may close.
 use Rattle.std.specs.Prelude.{List, [], ◌∷◌, ℕ, ◌^◌}
 use Prim.Native.String.{String}
+use Rattle.std.specs.declared.option.Option as Options
+use Rattle.std.specs.declared.option.Option.TheVariants.{None, Some}
 use Rattle.text.specs.Runs.{word}
 use Rattle.text.specs.Cases.{Case, case, ◌holds◌fails◌, OpenCases}
 use Rattle.rules.specs.declared.closer.Closer.{Closer}
-use Rattle.rules.specs.declared.closer.Closer.TheVariants.{At, Nothing}
 use Rattle.rules.specs.Known.{name_number, has_name, OpenKnown}
 use Rattle.rules.specs.Closers.{search_from, OpenClosers}
 
 -- the closer's start, end and lines before it; nothing where there is none
-unfoldable pub places : Closer → List ℕ
-places (At a e n) = a ∷ e ∷ n ∷ []
-places Nothing = []
+unfoldable pub places : Options.Option Closer → List ℕ
+places (Some c) = c.start ∷ c.end ∷ c.before ∷ []
+places None = []
 
 -- the lines compared further, and the closer
 unfoldable pub search : String → ℕ → ℕ → ℕ → List ℕ → Case

@@ -16,5 +16,6 @@ returns-then-not-scope c z =
 pub find_end-search-requires : goal.find_end-search-requires
 find_end-search-requires c = let o = line_of-order _ _ _ c.requires.line in omega arith
 
-pub returns-in_default : goal.returns-in_default
-returns-in_default c z = closer-nothing _ _ _ _ (sym c.in_default.is ∙ searched-closer _ _ _ _ _ c.find_end-search.ensures)
+pub returns : goal.returns
+returns c z =
+    closer-nothing _ _ _ _ (sym (rw (searched-closer _ _ _ _ _ c.find_end-search.ensures) at c.is_some.ensures) ∙ z)

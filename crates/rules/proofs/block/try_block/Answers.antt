@@ -1,10 +1,11 @@
 -- `rules::block::try_block` meets its contract: the body begins with `#+begin_`, a name follows, its closer stands, and the name tells the kind.
 -- Assumes nothing.
-use Rattle.std.proofs.Common.{◌≡◌, ◌++◌, ℕ, ◌+◌, ◌≤◌, length, sym, ◌∙◌, arith, rules}
+use Rattle.std.proofs.Common.{◌≡◌, ◌++◌, ◌+◌, ◌≤◌, length, sym, ◌∙◌, arith, rules}
 use Rattle.text.specs.Runs.{word}
 use Rattle.text.specs.Parts.{part, lines_in}
 use Rattle.text.proofs.Laws.Parts.{part_slice}
-use Rattle.rules.specs.declared.closer.Closer.TheVariants.{At}
+use Rattle.std.specs.declared.option.Option.TheVariants.{Some}
+use Rattle.rules.specs.declared.closer.Closer.{Closer}
 use Rattle.rules.proofs.Laws.LineOf.{line_of-order}
 use Rattle.text.proofs.Laws.LinesIn.{lines_in-length}
 use Rattle.rules.proofs.Laws.LineRules.{lines_before-below, closer-count}
@@ -13,7 +14,7 @@ use Rattle.rules.proofs.Laws.Closers.{closer_in, searched-closer}
 use Rattle.rules.proofs.Laws.NoLines.{knows-next}
 use Rattle.rules.proofs.Laws.Blocks.{block_no, begin-order, name-order, block-unnamed, closer-bytes, block-open, block-verbatim, block-greater}
 use Rattle.rules.proofs.block.try_block.Goals as goal
-use Rattle.rules.proofs.block.try_block.Goals.{After-word_end-to, After-find_closer-search}
+use Rattle.rules.proofs.block.try_block.Goals.{After-word_end-to, After-find_closer, in-Some, in-None}
 
 pub begins_with-requires : goal.begins_with-requires
 begins_with-requires c = let o = line_of-order _ _ _ c.requires.line in (o.1, omega arith)
@@ -55,33 +56,34 @@ returns-then-not-has_name c =
 pub slice_bounds-find_closer-end-2 : goal.slice_bounds-find_closer-end-2
 slice_bounds-find_closer-end-2 c = let o = ends (goal.at.slice_bounds-find_closer-end-2 c).After-word_end-to in search rules
 
-pub find_closer-search-requires : goal.find_closer-search-requires
+pub find_closer-requires : goal.find_closer-requires
 unfolding word
-find_closer-search-requires c =
+find_closer-requires c =
     let begin = sym c.if-not-begins_with.ensures in
     let o = line_of-order _ _ _ c.requires.line in
-    let n = ends (goal.at.find_closer-search-requires c).After-word_end-to in
+    let n = ends (goal.at.find_closer-requires c).After-word_end-to in
     (o.4, o.5, rw (part_slice _ _ _ n.0) (closer-bytes _ _ _ c.requires.line begin _ c.word_end-to.ensures))
 
 -- the closer of the name
-closer : (c : After-find_closer-search) →
+closer : (c : After-find_closer) →
     let args = c.args in
     let s = args.text.now in
-    c.find_closer-search.result.closer ≡ closer_in (word "#+end_" ++ part s (args.line.from + 8) c.word_end-to.result) s args.line.end args.scope.end
+    c.find_closer.result.closer ≡ closer_in (word "#+end_" ++ part s (args.line.from + 8) c.word_end-to.result) s args.line.end args.scope.end
 unfolding word
 closer c =
     let n = name-order _ _ _ c.requires.line (sym c.if-not-begins_with.ensures) _ c.word_end-to.ensures in
-    rw (part_slice _ _ _ n.0) at (searched-closer _ _ _ _ _ c.find_closer-search.ensures)
+    rw (part_slice _ _ _ n.0) at (searched-closer _ _ _ _ _ c.find_closer.ensures)
 
-pub returns-in_default : goal.returns-in_default
+pub returns-in_err-closer : goal.returns-in_err-closer
 unfolding word
-returns-in_default c =
-    block-open _ _ _ c.requires.line (sym c.if-not-begins_with.ensures) _ c.word_end-to.ensures c.if-to-name.false
-    (closer_at-nothing _ _ _ (sym c.in_default.is ∙ closer (goal.at.returns-in_default c).After-find_closer-search))
+returns-in_err-closer c =
+    c.from_residual.ensures
+    ∙ block-open _ _ _ c.requires.line (sym c.if-not-begins_with.ensures) _ c.word_end-to.ensures c.if-to-name.false
+    (closer_at-nothing _ _ _ (sym c.in_err-closer.was ∙ closer (goal.at.returns-in_err-closer c).After-find_closer))
 
 -- so many lines stand before it
-count : (c : After-find_closer-search) (p q n : ℕ) → c.find_closer-search.result.closer ≡ At p q n → n ≤ length c.args.text.now
-count c p q n h =
+count : (c : After-find_closer) (d : Closer) → c.find_closer.result.closer ≡ Some d → d.before ≤ length c.args.text.now
+count c d h =
     let s = c.args.text.now in
     let l = c.args.line in
     let e = c.args.scope.end in
@@ -89,24 +91,24 @@ count c p q n h =
     let ls = lines_in s l.end e in
     omega (
       arith,
-      closer-count l.end ls _ (lines_before-below _ ls) _ _ _ (sym h ∙ closer c),
+      closer-count l.end ls _ (lines_before-below _ ls) _ (sym h ∙ closer c),
       lines_in-length s l.end e o.4 o.5,
     )
 
-pub overflow_add-result : goal.overflow_add-result
-overflow_add-result c = omega (arith, count (goal.at.overflow_add-result c).After-find_closer-search _ _ _ c.in-At.is)
-
-pub returns-then-verbatim-gt0 : goal.returns-then-verbatim-gt0
-unfolding word
-returns-then-verbatim-gt0 c =
-    block-verbatim _ _ _ c.requires.line (sym c.if-not-begins_with.ensures) _ c.word_end-to.ensures c.if-to-name.false _
-    (sym c.in-At.is ∙ closer (goal.at.returns-then-verbatim-gt0 c).After-find_closer-search) _ c.verbatim_detail-verbatim.ensures c.if-verbatim-gt0.true
-
-pub overflow_add-result-2 : goal.overflow_add-result-2
-overflow_add-result-2 c = omega (arith, count (goal.at.overflow_add-result-2 c).After-find_closer-search _ _ _ c.in-At.is)
+pub of_lines_between-requires : goal.of_lines_between-requires
+of_lines_between-requires c = omega (arith, count (goal.at.of_lines_between-requires c).After-find_closer _ c.in_ok-closer.was)
 
 pub returns : goal.returns
 unfolding word
 returns c =
-    block-greater _ _ _ c.requires.line (sym c.if-not-begins_with.ensures) _ c.word_end-to.ensures c.if-to-name.false _
-    (sym c.in-At.is ∙ closer (goal.at.returns c).After-find_closer-search) _ c.verbatim_detail-verbatim.ensures c.if-verbatim-gt0.false _ c.greater_detail.ensures
+    let begins = sym c.if-not-begins_with.ensures in
+    let closes = sym c.in_ok-closer.was ∙ closer (goal.at.returns c).After-find_closer in
+    rw c.of_lines_between.ensures
+    (elim c.match-verbatim_detail.branch [
+      | in-Some w ↦
+          rw w.kind-is
+          (block-verbatim _ _ _ c.requires.line begins _ c.word_end-to.ensures c.if-to-name.false _ closes _ w.in-Some.ensures)
+      | in-None w ↦
+          rw w.kind-is
+          (block-greater _ _ _ c.requires.line begins _ c.word_end-to.ensures c.if-to-name.false _ closes w.in-None.ensures _ w.greater_detail.ensures)
+    ])

@@ -11,38 +11,43 @@ use Rattle.rules.proofs.Laws.Closers.{searched-closer}
 use Rattle.rules.proofs.Laws.NoLines.{knows-next}
 use Rattle.rules.proofs.Laws.Drawers.{drawer-no, drawer-closer, drawer-none}
 use Rattle.rules.proofs.drawer.try_drawer.Goals as goal
+use Rattle.rules.proofs.drawer.try_drawer.Goals.{then-not-scope-via-then-not-scope, then-not-scope-via-else-not-scope+then-not-is_drawer_line}
 
 pub returns-then-not-scope : goal.returns-then-not-scope
 returns-then-not-scope c =
     let pre = c.requires in
-    drawer-none _ _ _ pre.line ((knows-next _ _ _ _ _ pre.line pre.known).ends (not-true _ c.if-not-scope.true))
+    elim c.then-not-scope.branch [
+      | then-not-scope-via-then-not-scope w ↦
+          drawer-none _ _ _ pre.line ((knows-next _ _ _ _ _ pre.line pre.known).ends (not-true _ w.if-not-scope.true))
+      | then-not-scope-via-else-not-scope+then-not-is_drawer_line w ↦
+          drawer-no _ _ _ pre.line (sym w.is_drawer_line.ensures ∙ w.if-not-is_drawer_line.true)
+    ]
 
-pub returns-then-not-is_drawer_line : goal.returns-then-not-is_drawer_line
-returns-then-not-is_drawer_line c = drawer-no _ _ _ c.requires.line (sym c.if-not-is_drawer_line.ensures)
+pub find_end-requires : goal.find_end-requires
+find_end-requires c = let o = line_of-order _ _ _ c.requires.line in (o.4, o.5)
 
-pub find_end-search-requires : goal.find_end-search-requires
-find_end-search-requires c = let o = line_of-order _ _ _ c.requires.line in (o.4, o.5)
+pub returns-in_err-closer : goal.returns-in_err-closer
+returns-in_err-closer c =
+    c.from_residual.ensures
+    ∙ drawer-closer _ _ _ c.requires.line (sym c.is_drawer_line.ensures ∙ c.if-not-is_drawer_line.false) _
+    (sym c.in_err-closer.was ∙ searched-closer _ _ _ _ _ c.find_end.ensures)
 
-pub returns-in_default : goal.returns-in_default
-returns-in_default c =
-    drawer-closer _ _ _ c.requires.line (sym c.if-not-is_drawer_line.ensures) _
-    (sym c.in_default.is ∙ searched-closer _ _ _ _ _ c.find_end-search.ensures)
-
-pub overflow_add-result : goal.overflow_add-result
-overflow_add-result c =
+pub of_lines_between-requires : goal.of_lines_between-requires
+of_lines_between-requires c =
     let s = c.args.text.now in
     let l = c.args.line in
     let e = c.args.scope.end in
     let o = line_of-order _ _ _ c.requires.line in
     let ls = lines_in s l.end e in
-    let closer = sym c.in-At.is ∙ searched-closer _ _ _ _ _ c.find_end-search.ensures in
+    let closer = sym c.in_ok-closer.was ∙ searched-closer _ _ _ _ _ c.find_end.ensures in
     omega (
       arith,
-      closer-count l.end ls _ (lines_before-below (word ":end:") ls) _ _ _ closer,
+      closer-count l.end ls _ (lines_before-below (word ":end:") ls) _ closer,
       lines_in-length s l.end e o.4 o.5,
     )
 
 pub returns : goal.returns
 returns c =
-    drawer-closer _ _ _ c.requires.line (sym c.if-not-is_drawer_line.ensures) _
-    (sym c.in-At.is ∙ searched-closer _ _ _ _ _ c.find_end-search.ensures)
+    rw c.of_lines_between.ensures
+    (drawer-closer _ _ _ c.requires.line (sym c.is_drawer_line.ensures ∙ c.if-not-is_drawer_line.false) _
+    (sym c.in_ok-closer.was ∙ searched-closer _ _ _ _ _ c.find_end.ensures))

@@ -10,9 +10,9 @@ use Rattle.rules.proofs.Laws.FirstOf.{element-holds, element-list, element-fails
 use Rattle.rules.proofs.element.element_at.Goals as goal
 use Rattle.rules.proofs.element.element_at.Goals.{After-paragraph_at, then-allows_rules+in_default+else-is_item, else-allows_rules}
 
-pub returns-in-Holds : goal.returns-in-Holds
-returns-in-Holds c =
-    let is = element-holds _ _ _ (sym c.if-allows_rules.ensures) _ c.in-Holds.ensures in
+pub returns-in-Some : goal.returns-in-Some
+returns-in-Some c =
+    let is = element-holds _ _ _ (sym c.if-allows_rules.ensures) _ c.in-Some.ensures in
     record { is = is; known = knows-element _ _ _ _ _ c.requires.0.known _ _ is }
 
 pub is_item-requires : goal.is_item-requires

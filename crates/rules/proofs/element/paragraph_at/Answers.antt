@@ -5,6 +5,7 @@ use Rattle.text.specs.Runs.{word}
 use Rattle.text.specs.Parts.{lines_in}
 use Rattle.text.proofs.Laws.LinesIn.{lines_in-length}
 use Rattle.rules.specs.declared.lines.LineRun.{LineRun}
+use Rattle.rules.specs.declared.rule.Element.{Element}
 use Rattle.rules.specs.Known.{NoLine, has_name, Names}
 use Rattle.rules.specs.Findings.{paragraph_run}
 use Rattle.rules.proofs.Laws.LineOf.{line_of-order}
@@ -39,9 +40,9 @@ paragraph_lines-further-requires c =
     let o = line_of-order _ _ _ c.requires.line in
     (o.4, o.5, record { ends = ends (goal.at.paragraph_lines-further-requires c).Joined-first-eq58; names = names c })
 
-pub overflow_add-result : goal.overflow_add-result
+pub of_run-requires : goal.of_run-requires
 unfolding paragraph_run
-overflow_add-result c =
+of_run-requires c =
     let s = c.args.text.now in
     let l = c.args.line in
     let e = c.args.scope.end in
@@ -52,4 +53,4 @@ overflow_add-result c =
 pub returns : goal.returns
 returns c =
     let further = c.paragraph_lines-further.ensures in
-    record { is = paragraph-spanned _ _ _ c.requires.line _ further.0; known = further.1 }
+    record { is = c.of_run.ensures ∙ paragraph-spanned _ _ _ c.requires.line _ further.0; known = rw (ap (λ (x : Element). x.end) c.of_run.ensures) further.1 }

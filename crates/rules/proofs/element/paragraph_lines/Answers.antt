@@ -71,11 +71,11 @@ find_rule-requires c =
     let at-line = (goal.at.find_rule-requires c).After-line_at-line in
     record { line = line at-line; known = known at-line }
 
-pub returns-in-Holds : goal.returns-in-Holds
-returns-in-Holds c =
+pub returns-then-is_some : goal.returns-then-is_some
+returns-then-is_some c =
     let inv = c.loop-at.invariant in
-    let at-line = (goal.at.returns-in-Holds c).After-line_at-line in
-    (sym (rw (here at-line) at (paragraph-stop _ _ _ (line at-line) _ c.find_rule.ensures c.loop-at.n _ c.in-Holds.is)) ∙ inv.run, inv.known)
+    let at-line = (goal.at.returns-then-is_some c).After-line_at-line in
+    (sym (rw (here at-line) at (paragraph-stop _ _ _ (line at-line) _ c.find_rule.ensures c.loop-at.n (sym c.is_some.ensures ∙ c.if-is_some.true))) ∙ inv.run, inv.known)
 
 -- ---- what is known after it
 
@@ -117,7 +117,7 @@ loop-at-preserved c =
     let is_line = line at-line in
     let is_known = known at-line in
     let no_item : is_item (line_in c.args.text.now c.line_at-line.result.start c.args.scope.end) ≡ false = rw (here at-line) (sym c.if-is_item.ensures) in
-    let pass = paragraph-pass _ _ _ is_line _ c.find_rule.ensures c.loop-at.n c.if-line.false c.in_default.is no_item in
+    let pass = paragraph-pass _ _ _ is_line _ c.find_rule.ensures c.loop-at.n c.if-line.false (sym c.is_some.ensures ∙ c.if-is_some.false) no_item in
     record {
       order = (next at-line).1;
       known = record { ends = ends at-ends is_line is_known; names = names c is_line is_known };

@@ -9,7 +9,7 @@ use Rattle.rules.specs.declared.scope.Scope.{Scope}
 use Rattle.rules.specs.declared.place.Place.{Place}
 use Rattle.rules.specs.Elements.{rule, table, horizontal_rule, first_of, rules3to9, rules1to9}
 use Rattle.rules.specs.Findings.{LineOf, rule_at, rule_on, is_in, wanting}
-use Rattle.rules.specs.declared.rule.Rule.TheVariants.{Fails}
+use Rattle.std.specs.declared.option.Option.TheVariants.{None}
 use Rattle.rules.proofs.Laws.LineOf.{line_of-order}
 use Rattle.rules.proofs.Laws.FirstByte.{mark-other, letter-other, first-none, first_some, planning-upper, planning-small, planning-s}
 use Rattle.rules.proofs.Laws.FirstOf.{first_of-byte, first_of-none, first_of-only, first_of-letter}
@@ -76,7 +76,7 @@ unwanted b o pl =
       wanting,
     )
 
-none : (s : List ℕ) (l : LineSpan) (sc : Scope) → LineOf s l sc.end → l.from < l.to → Other (get_or s l.from 0) → Fails ≡ rule_on (first_of (rules1to9 sc.place)) s l sc
+none : (s : List ℕ) (l : LineSpan) (sc : Scope) → LineOf s l sc.end → l.from < l.to → Other (get_or s l.from 0) → None ≡ rule_on (first_of (rules1to9 sc.place)) s l sc
 unfolding rule_at
 none s l sc h i o =
     rw (first_of-none (lines_in s l.start sc.end) sc.place _ (first_some s l sc.end h i) (unwanted (get_or s l.from 0) o sc.place))

@@ -8,14 +8,14 @@ use Rattle.rules.specs.Findings.{is_in, wanting}
 use Rattle.rules.proofs.Laws.FirstOf.{first_of-holds, first_of-fails, first_of-last}
 use Rattle.rules.proofs.first_rule.try_colon.Goals as goal
 
-pub returns-in-Holds : goal.returns-in-Holds
+pub returns-in-Some : goal.returns-in-Some
 unfolding wanting is_in rules1to9 rules3to9 word
-returns-in-Holds c = first_of-holds _ _ _ _ _ c.in-Holds.ensures
+returns-in-Some c = first_of-holds _ _ _ _ _ c.in-Some.ensures
 
-pub returns-in-Holds-try_drawer : goal.returns-in-Holds-try_drawer
+pub returns-in-Some-try_drawer : goal.returns-in-Some-try_drawer
 unfolding wanting is_in rules1to9 rules3to9 word
-returns-in-Holds-try_drawer c =
-    first_of-holds _ _ _ _ _ c.in-Holds-try_drawer.ensures ∙ first_of-fails _ _ _ _ c.in_default.ensures
+returns-in-Some-try_drawer c =
+    first_of-holds _ _ _ _ _ c.in-Some-try_drawer.ensures ∙ first_of-fails _ _ _ _ c.in_default.ensures
 
 pub try_run-requires : goal.try_run-requires
 unfolding inner_of

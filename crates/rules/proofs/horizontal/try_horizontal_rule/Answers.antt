@@ -18,4 +18,5 @@ pub returns-then-run_end-line : goal.returns-then-run_end-line
 returns-then-run_end-line c = horizontal_rule-other _ _ _ c.requires.line _ c.run_end.ensures c.if-run_end-line.true
 
 pub returns : goal.returns
-returns c = horizontal_rule-yes _ _ _ c.requires.line _ c.run_end.ensures (omega arith) c.if-run_end-line.false
+returns c =
+    rw c.of_line.ensures (horizontal_rule-yes _ _ _ c.requires.line _ c.run_end.ensures (omega arith) c.if-run_end-line.false)

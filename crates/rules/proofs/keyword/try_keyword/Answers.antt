@@ -28,8 +28,8 @@ returns-then-marker-line-lt4 c =
     keyword-short _ _ _ c.requires.line _ c.word_end-run.ensures
     _ c.after_last_colon-marker.ensures (omega arith)
 
-pub run_end-requires : goal.run_end-requires
-run_end-requires c =
+pub run_end-value-requires : goal.run_end-value-requires
+run_end-value-requires c =
     let line = c.requires.line in
     let o = line_of-order _ _ _ line in
     (marker-to _ _ _ line _ c.word_end-run.ensures _ c.after_last_colon-marker.ensures, omega arith)
@@ -37,6 +37,7 @@ run_end-requires c =
 pub returns : goal.returns
 unfolding word
 returns c =
-    keyword-yes _ _ _ c.requires.line _ c.word_end-run.ensures
+    rw c.of_line.ensures
+    (keyword-yes _ _ _ c.requires.line _ c.word_end-run.ensures
     _ c.after_last_colon-marker.ensures (sym c.begins_with.ensures ∙ c.if-not-begins_with.false)
-    (omega arith) _ c.run_end.ensures
+    (omega arith) _ c.run_end-value.ensures)

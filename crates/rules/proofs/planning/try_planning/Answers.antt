@@ -1,26 +1,22 @@
--- `rules::planning::try_planning` meets its contract: right after a heading line the line decides, and no other place allows it.
+-- `rules::planning::try_planning` meets its contract: the place and the line decide.
 -- Assumes nothing.
-use Rattle.std.proofs.Common.{◌≡◌, sym, ◌∙◌, ◌&&◌}
-use Rattle.text.specs.Parts.{line_in}
-use Rattle.rules.specs.LineTests.{is_planning}
+use Rattle.std.proofs.Common.{sym, ◌∙◌}
+use mathlib.Core.Bool.{and-false}
 use Rattle.rules.specs.Places.{allows_planning}
-use Rattle.rules.proofs.Laws.Places.{allows_planning-no}
 use Rattle.rules.proofs.Laws.Rules.{planning-no, planning-yes}
 use Rattle.rules.proofs.planning.try_planning.Goals as goal
-use Rattle.rules.proofs.planning.try_planning.Goals.{After-is_planning}
+use Rattle.rules.proofs.planning.try_planning.Goals.{then-not-allows_planning-via-then-not-allows_planning, then-not-allows_planning-via-else-not-allows_planning+then-not-is_planning}
 
--- the place allows it, so the line decides
-line : (c : After-is_planning)
-    → (allows_planning c.args.scope.place && is_planning (line_in c.args.text.now c.args.line.start c.args.scope.end)) ≡ c.is_planning.result
-unfolding allows_planning
-line c = rw c.in-AfterHeading.is (sym c.is_planning.ensures)
-
-pub returns-in_default : goal.returns-in_default
-returns-in_default c = planning-no _ _ _ c.requires.line _ (rw (allows_planning-no c.args.scope.place c.in_default.not-AfterHeading))
-
-pub returns-then-not-is_planning : goal.returns-then-not-is_planning
-returns-then-not-is_planning c =
-    planning-no _ _ _ c.requires.line _ (line (goal.at.returns-then-not-is_planning c).After-is_planning ∙ c.if-not-is_planning.true)
+pub returns-then-not-allows_planning : goal.returns-then-not-allows_planning
+returns-then-not-allows_planning c =
+    let place = sym c.allows_planning.ensures in
+    planning-no _ _ _ c.requires.line _ (elim c.then-not-allows_planning.branch [
+      | then-not-allows_planning-via-then-not-allows_planning w ↦ rw (place ∙ w.if-not-allows_planning.true)
+      | then-not-allows_planning-via-else-not-allows_planning+then-not-is_planning w ↦
+          rw (sym w.is_planning.ensures ∙ w.if-not-is_planning.true) (and-false (allows_planning c.args.scope.place))
+    ])
 
 pub returns : goal.returns
-returns c = planning-yes _ _ _ c.requires.line _ (line (goal.at.returns c).After-is_planning ∙ c.if-not-is_planning.false)
+returns c =
+    let place = sym c.allows_planning.ensures ∙ c.if-not-allows_planning.false in
+    rw c.of_line.ensures (planning-yes _ _ _ c.requires.line _ (rw (place, sym c.is_planning.ensures) c.if-not-is_planning.false))

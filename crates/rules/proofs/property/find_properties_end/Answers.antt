@@ -31,13 +31,14 @@ returns-then-is_end_line c =
 pub property_at-requires : goal.property_at-requires
 property_at-requires c = line (goal.at.property_at-requires c).After-line_at-line
 
-pub returns-in_default : goal.returns-in_default
-returns-in_default c =
+pub returns-in_err-property_at : goal.returns-in_err-property_at
+returns-in_err-property_at c =
     let inv = c.loop-at.invariant in
-    sym (further-nothing _)
+    c.from_residual.ensures
+    ∙ sym (further-nothing _)
     ∙ ap (further _) (properties-stop _ _ _ _ c.line_at-line.ensures c.loop-at-test.true inv.1
     (sym c.is_end_line.ensures ∙ c.if-is_end_line.false)
-    (sym (property_of-named _ _) ∙ ap is_named (sym c.in_default.ensures)))
+    (sym (property_of-named _ _) ∙ ap is_named (sym c.in_err-property_at.ensures)))
     ∙ inv.3
 
 pub loop-at-smaller : goal.loop-at-smaller
@@ -53,7 +54,7 @@ loop-at-preserved c =
       further-one _ _
           ∙ ap (further _) (properties-pass _ _ _ _ c.line_at-line.ensures c.loop-at-test.true inv.1
           (sym c.is_end_line.ensures ∙ c.if-is_end_line.false)
-          (sym (property_of-named _ _) ∙ ap is_named (sym c.in-Named.ensures)))
+          (sym (property_of-named _ _) ∙ ap is_named (sym c.in_ok-property_at.ensures)))
           ∙ inv.3,
     )
 
