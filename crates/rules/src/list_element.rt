@@ -20,7 +20,7 @@ fn list_detail(text: &[u8], line: LineSpan, to: usize) -> usize
     ensures { result ≡ list_detail (line_in text.now line.start to) }
 {
     match find_bullet(text, line.start, line.from, to) {
-        Bullet::Number(_) => 1,
+        Some(Bullet::Number(_)) => 1,
         _ => 2,
     }
 }
@@ -54,9 +54,8 @@ fn left_start(text: &[u8], line: LineSpan, to: usize) -> usize
     ensures { result ≡ line.start + item_start (line_in text.now line.start to) }
 {
     match find_bullet(text, line.start, line.from, to) {
-        Bullet::Sign(after) => item_start(text, after, line.end),
-        Bullet::Number(after) => item_start(text, after, line.end),
-        Bullet::Nothing => line.end,
+        Some(Bullet::Sign(after) | Bullet::Number(after)) => item_start(text, after, line.end),
+        None => line.end,
     }
 }
 
