@@ -10,27 +10,23 @@ use Rattle.text.specs.Parts.{line_in}
 use Rattle.rules.specs.Items.{Part, after_byte, ended, after_all, after_sign, is_mark, after_number, is_byte, after_set, is_box_byte, after_box}
 use Rattle.rules.specs.Items.{past}
 use Rattle.rules.specs.declared.item.Bullet.{Bullet}
-use Rattle.rules.specs.declared.item.Bullet.TheVariants.{Sign, Number}
 
 -- the bullet of a line at byte p, with the byte right after it
 unfoldable pub bullet_of : ℕ → Line → Options.Option Bullet
 bullet_of p l =
     let x = after_run is_indent l in
     elim (after_sign (ltb 0 (indent l)) x) [
-      | some y ↦ Some (Sign (p + (length l - length y)))
-      | none ↦ elim (after_number x) [ some y ↦ Some (Number (p + (length l - length y))) | none ↦ None ]
+      | some y ↦ Some (record { numbered = false; end = p + (length l - length y) })
+      | none ↦ elim (after_number x) [
+        | some y ↦ Some (record { numbered = true; end = p + (length l - length y) })
+        | none ↦ None
+      ]
     ]
 
--- the detail of a list whose first item has it
-unfoldable pub bullet_detail : Options.Option Bullet → ℕ
-bullet_detail (Some (Sign q)) = 2
-bullet_detail (Some (Number q)) = 1
-bullet_detail None = 2
-
--- the byte right after it
-abbrev pub bullet_end : Bullet → ℕ
-bullet_end (Sign q) = q
-bullet_end (Number q) = q
+-- whether it is a number or letter: a list whose first item has one has detail 1, else 2
+unfoldable pub is_numbered : Options.Option Bullet → Bool
+is_numbered None = false
+is_numbered (Some b) = b.numbered
 
 -- what is left of a line after its bullet: past blank bytes, a counter set and a check box; and where that starts, of what stands at byte p
 unfoldable pub after_marks : List ℕ → List ℕ

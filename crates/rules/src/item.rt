@@ -8,11 +8,11 @@ ghost use Rattle.rules.specs.Bullets.{bullet_of, marks_end, after_last, Tests, L
 
 use text::bytes::{Class, is_digit, is_nonblank, run_end};
 
-// A bullet, a sign or a number or letter, and the byte right after it.  [02 order 4]
+// A bullet: whether it is a number or letter, and no sign, and the byte right after it.  [02 order 4]
 #[derive(Clone, Copy)]
-pub enum Bullet {
-    Sign(usize),
-    Number(usize),
+pub struct Bullet {
+    pub numbered: bool,
+    pub end: usize,
 }
 
 // The width of the indentation from a byte up to a body: 8 for a tab, 1 for a space.
@@ -130,11 +130,17 @@ pub fn find_bullet(text: &[u8], at: usize, body: usize, to: usize) -> Option<Bul
     ensures { result ≡ bullet_of at (line_in text.now at to) }
 {
     let indented = at < body;
-    if let Some(a) = after_last(text, body, to, |b| is_sign(b, indented)) {
-        return Some(Bullet::Sign(a));
+    if let Some(end) = after_last(text, body, to, |b| is_sign(b, indented)) {
+        return Some(Bullet {
+            numbered: false,
+            end,
+        });
     }
-    let a = after_number(text, body, to)?;
-    Some(Bullet::Number(a))
+    let end = after_number(text, body, to)?;
+    Some(Bullet {
+        numbered: true,
+        end,
+    })
 }
 
 // Whether a line may be an item line, by the first two bytes of its body: most lines of text are told so. Signs lie in `*` to `-`; after the
@@ -196,6 +202,16 @@ pub fn item_start(text: &[u8], after: usize, end: usize) -> usize
     ensures { result ≡ marks_end after (line_in text.now after end) }
 {
     let a = run_end(text, after, end, Class::Blank);
-    let b = run_end(text, after_set(text, a, end).unwrap_or(a), end, Class::Blank);
-    run_end(text, after_box(text, b, end).unwrap_or(b), end, Class::Blank)
+    let b = run_end(
+        text,
+        after_set(text, a, end).unwrap_or(a),
+        end,
+        Class::Blank,
+    );
+    run_end(
+        text,
+        after_box(text, b, end).unwrap_or(b),
+        end,
+        Class::Blank,
+    )
 }

@@ -107,15 +107,15 @@ fn lines_alone(text: &[u8], from: usize, width: usize, to: usize) -> Stretch
 {
     let mut at = from;
     let mut n = 0;
-    while let Some(next) = find_next(text, at, to) {
-        if next.width <= width {
+    while let Some(line) = find_next(text, at, to) {
+        if line.width <= width {
             break;
         }
-        if matches!(text[next.body], b'#' | b':' | b'|') {
+        if matches!(text[line.body], b'#' | b':' | b'|') {
             return Stretch::Begun(LineRun { end: at, lines: n });
         }
-        at = line_end(text, next.body, to);
-        n += next.blanks + 1;
+        at = line_end(text, line.body, to);
+        n += line.blanks + 1;
     }
     Stretch::Whole(LineRun { end: at, lines: n })
 }

@@ -27,10 +27,9 @@ use Rattle.text.proofs.Laws.Lines.{line, line-nil, line-newline, line_other, run
 use Rattle.text.proofs.Laws.LinesIn.{line_in-nil, line_in-cons, line_in-next, line_in-some, line_in-part, line_in-after_run, indent-part}
 use Rattle.rules.specs.Items.{Part, after_byte, after_counter, is_ended, ended, and_then, after_all, is_sign, after_sign, is_mark, after_number}
 use Rattle.rules.specs.Items.{or_then, after_bullet, is_item, list_detail, is_byte, is_box_byte, after_set, after_box, past, item_text, item_start}
-use Rattle.rules.specs.Bullets.{bullet_of, bullet_end, bullet_detail, after_marks, marks_end, after_last}
+use Rattle.rules.specs.Bullets.{bullet_of, is_numbered, after_marks, marks_end, after_last}
 use Rattle.rules.specs.Bullets.{left_at, OnLine, FoundOn, Leaves}
 use Rattle.rules.specs.declared.item.Bullet.{Bullet}
-use Rattle.rules.specs.declared.item.Bullet.TheVariants.{Sign, Number}
 use Rattle.rules.proofs.Basics.{options, All, all_nil, all_cons}
 use Rattle.rules.proofs.Laws.Bodies.{line_in-first}
 use Rattle.rules.proofs.Laws.Items.{after_bullet-less, after_marks-le}
@@ -258,11 +257,11 @@ module _ (p : ℕ) (l : Line) where
   abbrev sign : Option (List ℕ)
   sign = after_sign (ltb 0 (indent l)) text
 
-  bullet_of-sign : (y : List ℕ) → sign ≡ some y → bullet_of p l ≡ Some (Sign (p + (length l - length y)))
+  bullet_of-sign : (y : List ℕ) → sign ≡ some y → bullet_of p l ≡ Some (record { numbered = false; end = p + (length l - length y) })
   unfolding bullet_of
   bullet_of-sign y h = rw (h, bullet_of)
 
-  bullet_of-number : (y : List ℕ) → sign ≡ none → after_number text ≡ some y → bullet_of p l ≡ Some (Number (p + (length l - length y)))
+  bullet_of-number : (y : List ℕ) → sign ≡ none → after_number text ≡ some y → bullet_of p l ≡ Some (record { numbered = true; end = p + (length l - length y) })
   unfolding bullet_of
   bullet_of-number y h k = rw (h, k, bullet_of)
 
@@ -301,11 +300,12 @@ module _ (s : List ℕ) (p e b : ℕ) (h : b ≡ p + indent (line_in s p e)) (i 
   place : (q : ℕ) → OnLine s b e q → q ≡ p + (length whole - length (line_in s q e))
   place q o = omega (arith, o.end, body-on.end, o.from, body-on.from)
 
-  pub bullet-sign : (q : ℕ) → Leaves s b e (after_last (is_sign (ltb p b))) (Some q) → Some (Sign q) ≡ bullet_of p whole
-  bullet-sign q g = ap (λ (k : ℕ). Some (Sign k)) (place q g.on) ∙ sym (bullet_of-sign p whole _ (sign-is (Some q) g))
+  pub bullet-sign : (q : ℕ) → Leaves s b e (after_last (is_sign (ltb p b))) (Some q) → Some (record { numbered = false; end = q }) ≡ bullet_of p whole
+  bullet-sign q g = ap (λ (k : ℕ). Some (record { numbered = false; end = k })) (place q g.on) ∙ sym (bullet_of-sign p whole _ (sign-is (Some q) g))
 
-  pub bullet-number : (q : ℕ) → Leaves s b e (after_last (is_sign (ltb p b))) None → Leaves s b e after_number (Some q) → Some (Number q) ≡ bullet_of p whole
-  bullet-number q n g = ap (λ (k : ℕ). Some (Number k)) (place q g.on) ∙ sym (bullet_of-number p whole _ (sign-is None n) (number_is (Some q) g))
+  pub bullet-number : (q : ℕ) → Leaves s b e (after_last (is_sign (ltb p b))) None → Leaves s b e after_number (Some q)
+      → Some (record { numbered = true; end = q }) ≡ bullet_of p whole
+  bullet-number q n g = ap (λ (k : ℕ). Some (record { numbered = true; end = k })) (place q g.on) ∙ sym (bullet_of-number p whole _ (sign-is None n) (number_is (Some q) g))
 
   pub bullet-nothing : Leaves s b e (after_last (is_sign (ltb p b))) None → Leaves s b e after_number None → None ≡ bullet_of p whole
   bullet-nothing n g = sym (bullet_of-nothing p whole (sign-is None n) (number_is None g))
@@ -333,8 +333,8 @@ module _ (p : ℕ) (l : Line) where
       (λ y k. rw (bullet_of-number p l y h k, h, k)))
       (λ y h. rw (bullet_of-sign p l y h, h))
 
-  pub list_detail-bullet : list_detail l ≡ bullet_detail (bullet_of p l)
-  unfolding list_detail bullet_detail
+  pub list_detail-bullet : list_detail l ≡ elim (is_numbered (bullet_of p l)) [ true ↦ 1 | false ↦ 2 ]
+  unfolding list_detail is_numbered
   list_detail-bullet = options (sign p l)
       (λ h. options (after_number (text p l))
       (λ k. rw (bullet_of-nothing p l h k, k, list_detail))
@@ -436,17 +436,17 @@ record After (p : ℕ) (l : Line) (q : ℕ) : Type 0 where
   pub is : after_bullet l ≡ some left
   pub at : q ≡ p + (length l - length left)
 
-bullet-after : (p : ℕ) (l : Line) (b : Bullet) → Some b ≡ bullet_of p l → After p l (bullet_end b)
+bullet-after : (p : ℕ) (l : Line) (b : Bullet) → Some b ≡ bullet_of p l → After p l b.end
 unfolding after_bullet or_then
 bullet-after p l b e = options (sign p l)
     (λ h. options (after_number (text p l))
     (λ k. let z : Some b ≡ None = rw (bullet_of-nothing p l h k) at e in cc)
-    (λ y k. let z : Some b ≡ Some (Number (p + (length l - length y))) = rw (bullet_of-number p l y h k) at e in
-    let w : b ≡ Number (p + (length l - length y)) = cc in
-    record { left = y; is = rw (h, k); at = ap bullet_end w }))
-    (λ y h. let z : Some b ≡ Some (Sign (p + (length l - length y))) = rw (bullet_of-sign p l y h) at e in
-    let w : b ≡ Sign (p + (length l - length y)) = cc in
-    record { left = y; is = rw h; at = ap bullet_end w })
+    (λ y k. let z = rw (bullet_of-number p l y h k) at e in
+    let w : b ≡ record { numbered = true; end = p + (length l - length y) } = cc in
+    record { left = y; is = rw (h, k); at = ap (λ (x : Bullet). x.end) w }))
+    (λ y h. let z = rw (bullet_of-sign p l y h) at e in
+    let w : b ≡ record { numbered = false; end = p + (length l - length y) } = cc in
+    record { left = y; is = rw h; at = ap (λ (x : Bullet). x.end) w })
 
 -- of the line at byte p, which ends at byte n, and whose bullet ends at byte q
 module _ (s : List ℕ) (p e : ℕ) (h : p < e) (k : e ≤ length s) (n : ℕ) (j : n ≡ p + length (line_in s p e)) where
@@ -464,7 +464,7 @@ module _ (s : List ℕ) (p e : ℕ) (h : p < e) (k : e ≤ length s) (n : ℕ) (
 
   module _ (b : Bullet) (i : Some b ≡ bullet_of p (line_in s p e)) where
     abbrev q : ℕ
-    q = bullet_end b
+    q = b.end
 
     pub bullet-order : (p < q) × (q ≤ n)
     bullet-order =

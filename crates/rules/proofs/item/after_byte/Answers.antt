@@ -12,6 +12,6 @@ returns-then-test-clause-leaves g c t h =
 pub returns-clause-leaves : goal.returns-clause-leaves
 returns-clause-leaves g c t h = elim c.else-at-to.branch [
   | else-at-to-via-then-at-to+else-test w ↦
-    byte-no _ _ _ w.if-at-to.true c.requires.bounds.1 t (sym (h.is _ (search rules) _ w.test.ensures) ∙ w.if-test.false)
+      byte-no _ _ _ w.if-at-to.true c.requires.bounds.1 t (sym (h.is _ (search rules) _ w.test.ensures) ∙ w.if-test.false)
   | else-at-to-via-else-at-to w ↦ byte-none _ _ _ t w.if-at-to.false
 ]

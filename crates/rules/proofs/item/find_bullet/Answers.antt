@@ -17,15 +17,15 @@ returns-in-Some c =
 pub after_number-requires : goal.after_number-requires
 after_number-requires c = let pre = c.requires in let o = body-on _ _ _ _ pre.2 pre.0 pre.1 in omega arith
 
-pub returns-in_err-a : goal.returns-in_err-a
-returns-in_err-a c =
+pub returns-in_err-end : goal.returns-in_err-end
+returns-in_err-end c =
     let pre = c.requires in
     rw c.from_residual.ensures
     (bullet-nothing _ _ _ _ pre.2 pre.0 pre.1
-    (c.in_default.ensures (is_sign _) (record { newline = is_sign-newline _; is = λ b l r h. search of_calls })) c.in_err-a.ensures)
+    (c.in_default.ensures (is_sign _) (record { newline = is_sign-newline _; is = λ b l r h. search of_calls })) c.in_err-end.ensures)
 
 pub returns : goal.returns
 returns c =
     let pre = c.requires in
     bullet-number _ _ _ _ pre.2 pre.0 pre.1 _
-    (c.in_default.ensures (is_sign _) (record { newline = is_sign-newline _; is = λ b l r h. search of_calls })) c.in_ok-a.ensures
+    (c.in_default.ensures (is_sign _) (record { newline = is_sign-newline _; is = λ b l r h. search of_calls })) c.in_ok-end.ensures

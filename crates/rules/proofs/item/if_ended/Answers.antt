@@ -12,6 +12,6 @@ pub returns-else-at-to : goal.returns-else-at-to
 returns-else-at-to c =
     elim c.else-at-to.branch [
       | else-at-to-via-then-at-to+else-is_nonblank w ↦
-        ended-yes _ _ _ w.if-at-to.true c.requires.1 (sym w.is_nonblank.ensures ∙ w.if-is_nonblank.false)
+          ended-yes _ _ _ w.if-at-to.true c.requires.1 (sym w.is_nonblank.ensures ∙ w.if-is_nonblank.false)
       | else-at-to-via-else-at-to w ↦ ended-end _ _ _ c.requires.0 w.if-at-to.false
     ]
