@@ -7,7 +7,7 @@ use Rattle.text.specs.Bytes.{is_blank, is_indent}
 use Rattle.text.specs.Runs.{after_run}
 use Rattle.text.specs.Lines.{Line, indent}
 use Rattle.text.specs.Parts.{line_in}
-use Rattle.rules.specs.Items.{Part, after_byte, ended, after_all, after_sign, is_mark, after_number, is_byte, after_set, is_box_byte, after_box}
+use Rattle.rules.specs.Items.{Part, after_byte, ended, after_all, after_sign, after_number, after_set, after_box}
 use Rattle.rules.specs.Items.{past}
 use Rattle.rules.specs.declared.item.Bullet.{Bullet}
 

@@ -202,16 +202,8 @@ pub fn item_start(text: &[u8], after: usize, end: usize) -> usize
     ensures { result ≡ marks_end after (line_in text.now after end) }
 {
     let a = run_end(text, after, end, Class::Blank);
-    let b = run_end(
-        text,
-        after_set(text, a, end).unwrap_or(a),
-        end,
-        Class::Blank,
-    );
-    run_end(
-        text,
-        after_box(text, b, end).unwrap_or(b),
-        end,
-        Class::Blank,
-    )
+    let set_end = after_set(text, a, end).unwrap_or(a);
+    let b = run_end(text, set_end, end, Class::Blank);
+    let box_end = after_box(text, b, end).unwrap_or(b);
+    run_end(text, box_end, end, Class::Blank)
 }

@@ -26,7 +26,7 @@ use Rattle.text.proofs.Laws.Parts.{part-drop}
 use Rattle.text.proofs.Laws.Lines.{line, line-nil, line-newline, line_other, run-line}
 use Rattle.text.proofs.Laws.LinesIn.{line_in-nil, line_in-cons, line_in-next, line_in-some, line_in-part, line_in-after_run, indent-part}
 use Rattle.rules.specs.Items.{Part, after_byte, after_counter, is_ended, ended, and_then, after_all, is_sign, after_sign, is_mark, after_number}
-use Rattle.rules.specs.Items.{or_then, after_bullet, is_item, list_detail, is_byte, is_box_byte, after_set, after_box, past, item_text, item_start}
+use Rattle.rules.specs.Items.{or_then, after_bullet, is_item, list_detail, is_box_byte, after_set, after_box, past, item_text, item_start}
 use Rattle.rules.specs.Bullets.{bullet_of, is_numbered, after_marks, marks_end, after_last}
 use Rattle.rules.specs.Bullets.{left_at, OnLine, FoundOn, Leaves}
 use Rattle.rules.specs.declared.item.Bullet.{Bullet}

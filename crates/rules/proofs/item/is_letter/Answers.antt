@@ -1,7 +1,6 @@
 -- `rules::item::is_letter` meets its contract: a law of letters for each range of bytes.
 -- Assumes nothing.
-use mathlib.Core.Bool.{◌||◌}
-use Rattle.std.proofs.Common.{◌≡◌, ℕ, sym, ◌∙◌, arith}
+use Rattle.std.proofs.Common.{◌≡◌, ℕ, ◌∙◌, arith}
 use Rattle.std.specs.Char.{is_ascii_alphabetic}
 use lib.Dec.{ltb, leb}
 use borrow.Table.Steps.{cases}

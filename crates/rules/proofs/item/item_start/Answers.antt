@@ -24,7 +24,7 @@ unfolding is_blank
 set c =
     let k = c.requires.1 in
     let o = on_line-run _ _ _ is_blank refl _ c.run_end-a.ensures c.requires.0 k in
-    past-line _ _ _ o.to k after_set _ c.after_set.ensures _ c.unwrap_or.ensures _ c.run_end-b.ensures
+    past-line _ _ _ o.to k after_set _ c.after_set.ensures _ c.unwrap_or-set_end.ensures _ c.run_end-b.ensures
 
 pub after_set-requires : goal.after_set-requires
 after_set-requires c = ((blank c).to, c.requires.1)
@@ -33,7 +33,7 @@ pub run_end-b-requires : goal.run_end-b-requires
 run_end-b-requires c =
     let k = c.requires.1 in
     let o = blank (goal.at.run_end-b-requires c).After-run_end-a in
-    (stay-to _ _ _ o.to k after_set _ c.after_set.ensures _ c.unwrap_or.ensures, k)
+    (stay-to _ _ _ o.to k after_set _ c.after_set.ensures _ c.unwrap_or-set_end.ensures, k)
 
 pub after_box-requires : goal.after_box-requires
 after_box-requires c = ((set c).1.to, c.requires.1)
@@ -42,11 +42,11 @@ pub run_end-requires : goal.run_end-requires
 run_end-requires c =
     let k = c.requires.1 in
     let o = (set (goal.at.run_end-requires c).After-run_end-b).1 in
-    (stay-to _ _ _ o.to k after_box _ c.after_box.ensures _ c.unwrap_or-2.ensures, k)
+    (stay-to _ _ _ o.to k after_box _ c.after_box.ensures _ c.unwrap_or-box_end.ensures, k)
 
 pub returns : goal.returns
 unfolding is_blank
 returns c =
     let x = set (goal.at.returns c).After-run_end-b in
-    let box = past-line _ _ _ x.1.to c.requires.1 after_box _ c.after_box.ensures _ c.unwrap_or-2.ensures _ c.run_end.ensures in
+    let box = past-line _ _ _ x.1.to c.requires.1 after_box _ c.after_box.ensures _ c.unwrap_or-box_end.ensures _ c.run_end.ensures in
     marks_line _ _ _ _ _ _ (blank (goal.at.returns c).After-run_end-a) (after_run-line _ _ _ is_blank refl _ c.run_end-a.ensures) x box
