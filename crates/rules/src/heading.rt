@@ -63,14 +63,12 @@ fn star_line_by_bytes(text: &[u8], from: usize) -> usize
     requires { (1 ≤ from) × (from ≤ length text.now) }
     ensures { NextStarLine text.now from result }
 {
-    let mut i = from;
-    while i < text.len() {
+    for i in from..text.len() {
         if text[i] == b'*' && text[i - 1] == 10 {
             return i;
         }
-        i += 1;
     }
-    i
+    text.len()
 }
 
 // The next heading line from a line's start on with at most so many stars, or the text's end. Past the first line, only lines that start with a star

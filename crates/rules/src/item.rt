@@ -21,14 +21,8 @@ pub fn indent_width(text: &[u8], at: usize, body: usize) -> usize
     ensures { result ≡ width_of (part text.now at body) }
 {
     let mut width = 0;
-    let mut i = at;
-    while i < body {
-        if text[i] == 9 {
-            width += 8;
-        } else {
-            width += 1;
-        }
-        i += 1;
+    for &b in &text[at..body] {
+        width += if b == 9 { 8 } else { 1 };
     }
     width
 }

@@ -15,10 +15,8 @@ fn name_number(text: &[u8], from: usize, to: usize) -> u64
     ensures { (result ≡ name_number (part text.now from to)) × (result < 63) }
 {
     let mut n: u64 = 0;
-    let mut i = from;
-    while i < to {
-        n = (n * 5 + lower(text[i]) as u64) % 63;
-        i += 1;
+    for &b in &text[from..to] {
+        n = (n * 5 + lower(b) as u64) % 63;
     }
     n
 }
