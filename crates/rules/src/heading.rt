@@ -4,7 +4,7 @@ ghost use Rattle.rules.specs.Headings.{heading_stars, is_heading_up_to, StarLine
 
 use text::bytes::{Class, has_byte, run_end};
 
-// The stars of the heading line at a byte; 0 where the line there is none.
+// The stars of the heading line at a byte; 0 where the line there is none. No `Option`: 0 is below every level, and all that ask compare levels.
 pub fn heading_stars(text: &[u8], at: usize, to: usize) -> usize
     requires { (at ≤ to) × (to ≤ length text.now) }
     ensures { result ≡ heading_stars (line_in text.now at to) }
@@ -24,22 +24,18 @@ fn star_line_in(text: &[u8], at: usize) -> usize
     ensures { (result < 64 → StarLine text.now (at + result)) × ((k : ℕ) → k < 64 → k < result → StarLine text.now (at + k) → ⊥) }
 {
     let mut first: u8 = 255;
-    let mut j: u8 = 0;
-    while j < 64 {
+    for j in 0..64u8 {
         let here = if (text[at + (j as usize)] == b'*') & (text[at + (j as usize) - 1] == 10) {
             j
         } else {
             255 - j
         };
-        if here < first {
-            first = here;
-        }
-        j += 1;
+        first = first.min(here);
     }
     first as usize
 }
 
-// The next star right after byte 10, from a byte on, or the text's end.
+// The next star right after byte 10, from a byte on, or the text's end. No `step_by`: the last bytes are looked at from where the blocks end.
 pub fn next_star_line(text: &[u8], from: usize) -> usize
     requires { (1 ≤ from) × (from ≤ length text.now) }
     ensures { NextStarLine text.now from result }

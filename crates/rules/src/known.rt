@@ -7,7 +7,7 @@ use text::line::line_at;
 use text::word::begins_with;
 
 // Every name may close: nothing is known.
-pub const ANY_NAME: u64 = 18446744073709551615;
+pub const ANY_NAME: u64 = u64::MAX;
 
 // A number below 63 for a name: the same for names that differ in case only.
 fn name_number(text: &[u8], from: usize, to: usize) -> u64

@@ -100,7 +100,8 @@ pub enum Stretch {
     Begun(LineRun),
 }
 
-// The lines of an item before the first that may start a block, drawer or table: most items have none.
+// The lines of an item before the first that may start a block, drawer or table: most items have none. This loop and the three below end at
+// different lines and carry different things, so one with the steps as closures were no plainer.
 fn lines_alone(text: &[u8], from: usize, width: usize, to: usize) -> Stretch
     requires { (from ≤ to) × (to ≤ length text.now) × (to ≤ text_limit) }
     ensures { Stretches text.now from to width result }

@@ -16,8 +16,7 @@ loop-b-preserved c =
 
 pub returns : goal.returns
 returns c =
-    let inv = c.loop-b.invariant in
-    (
+    let inv = c.loop-b.invariant in (
       sym (number-end _ c.loop-b.b-index c.loop-b.n c.loop-b-test.false) ∙ inv.1 ∙ ap name_number (part_slice _ _ _ c.requires.0),
       inv.0,
     )
