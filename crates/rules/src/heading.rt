@@ -4,7 +4,8 @@ ghost use Rattle.rules.specs.Headings.{heading_stars, is_heading_up_to, StarLine
 
 use text::bytes::{Class, has_byte, run_end};
 
-// The stars of the heading line at a byte; 0 where the line there is none. No `Option`: 0 is below every level, and all that ask compare levels.
+// The stars of the heading line at a byte; 0 where the line there is none. No `Option`: a reader knows that there is
+// one, and passes the number on.
 pub fn heading_stars(text: &[u8], at: usize, to: usize) -> usize
     requires { (at ≤ to) × (to ≤ length text.now) }
     ensures { result ≡ heading_stars (line_in text.now at to) }
