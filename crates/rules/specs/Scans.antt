@@ -1,5 +1,5 @@
 -- What the scans for an item's and a list's lines find, told by bytes  [02 order 4].
-use Rattle.std.specs.Prelude.{◌≡◌, true, false, ◌&&◌, List, ℕ, ◌+◌, ◌≤◌, ◌<◌, ltb, leb, length, take}
+use Rattle.std.specs.Prelude.{◌≡◌, true, false, ◌&&◌, Option, None, Some, List, ℕ, ◌+◌, ◌≤◌, ◌<◌, ltb, leb, length, take}
 use Rattle.text.specs.Limits.{text_limit}
 use Rattle.text.specs.Lines.{Line, size, blank_line, indent, blanks}
 use Rattle.text.specs.Parts.{lines_in, line_in, first_line}
@@ -13,7 +13,7 @@ use Rattle.rules.specs.declared.lines.LineRun.{LineRun}
 use Rattle.rules.specs.declared.scope.Scope.{Scope}
 use Rattle.rules.specs.declared.list.Next.{Next}
 use Rattle.rules.specs.declared.list.Stretch.{Stretch}
-use Rattle.rules.specs.declared.list.Next.TheVariants.{Line as NextLine, Nothing}
+use Rattle.rules.specs.declared.list.Stretch.TheVariants.{Whole, Begun}
 
 -- of the lines from byte p up to byte e so many as f says, counted on from n
 unfoldable pub run_by : (List Line → ℕ) → List ℕ → ℕ → ℕ → ℕ → LineRun
@@ -32,12 +32,12 @@ unfoldable pub list_run : List ℕ → ℕ → ℕ → LineRun
 list_run s p e = run_by (λ ls. (list_of ls).own) s p e 0
 
 -- the first line from byte p on that is not blank, where no two blank lines stand before it
-unfoldable pub next_of : List ℕ → ℕ → ℕ → Next
+unfoldable pub next_of : List ℕ → ℕ → ℕ → Option Next
 next_of s p e =
     let q = first_line s p e in
     let l = line_in s q e in
     let n = blanks (lines_in s p e) in
-    elim (ltb q e && leb n 1) [ true ↦ NextLine q (q + indent l) (width l) n | false ↦ Nothing ]
+    elim (ltb q e && leb n 1) [ true ↦ Some (record { start = q; body = q + indent l; width = width l; blanks = n }) | false ↦ None ]
 
 -- ---- for contracts
 
@@ -46,11 +46,15 @@ pub record Tells (s : List ℕ) (e : ℕ) (x : LineRun) (r : Further) : Type 0 w
   pub run : r.run ≡ x
   pub known : Knows s r.run.end e r.ends r.names
 
--- lines of an item of indentation w from byte p on, as code answers them: the item goes on after them, unless they are all that it has
-pub record Begins (s : List ℕ) (p e w : ℕ) (r : Stretch) : Type 0 where
-  pub end : r.run.end ≡ p + size (take r.run.lines (lines_in s p e))
-  pub item : run_by (item_lines w 0) s r.run.end e r.run.lines ≡ item_run s p e w
-  pub whole : r.whole ≡ true → r.run ≡ item_run s p e w
+-- the first lines of an item of indentation w from byte p on: it goes on after them
+pub record Begins (s : List ℕ) (p e w : ℕ) (r : LineRun) : Type 0 where
+  pub end : r.end ≡ p + size (take r.lines (lines_in s p e))
+  pub item : run_by (item_lines w 0) s r.end e r.lines ≡ item_run s p e w
+
+-- lines of the item as code answers them: all that it has, or the first of them
+abbrev pub Stretches : List ℕ → ℕ → ℕ → ℕ → Stretch → Type 0
+Stretches s p e w (Whole r) = r ≡ item_run s p e w
+Stretches s p e w (Begun r) = Begins s p e w r
 
 -- the lines from byte p on in a scope; the sum of a line's indentation fits in a text of no more than its limit
 pub record LinesFrom (s : List ℕ) (p : ℕ) (c : Scope) : Type 0 where

@@ -4,7 +4,8 @@ ghost use Rattle.rules.specs.Headings.{heading_stars, is_heading_up_to, StarLine
 
 use text::bytes::{Class, has_byte, run_end};
 
-// The stars of the heading line at a byte; 0 where the line there is none.
+// The stars of the heading line at a byte; 0 where the line there is none. No `Option`: a reader knows that there is
+// one, and passes the number on.
 pub fn heading_stars(text: &[u8], at: usize, to: usize) -> usize
     requires { (at ≤ to) × (to ≤ length text.now) }
     ensures { result ≡ heading_stars (line_in text.now at to) }
@@ -24,22 +25,18 @@ fn star_line_in(text: &[u8], at: usize) -> usize
     ensures { (result < 64 → StarLine text.now (at + result)) × ((k : ℕ) → k < 64 → k < result → StarLine text.now (at + k) → ⊥) }
 {
     let mut first: u8 = 255;
-    let mut j: u8 = 0;
-    while j < 64 {
+    for j in 0..64u8 {
         let here = if (text[at + (j as usize)] == b'*') & (text[at + (j as usize) - 1] == 10) {
             j
         } else {
             255 - j
         };
-        if here < first {
-            first = here;
-        }
-        j += 1;
+        first = first.min(here);
     }
     first as usize
 }
 
-// The next star right after byte 10, from a byte on, or the text's end.
+// The next star right after byte 10, from a byte on, or the text's end. No `step_by`: the last bytes are looked at from where the blocks end.
 pub fn next_star_line(text: &[u8], from: usize) -> usize
     requires { (1 ≤ from) × (from ≤ length text.now) }
     ensures { NextStarLine text.now from result }
@@ -63,14 +60,12 @@ fn star_line_by_bytes(text: &[u8], from: usize) -> usize
     requires { (1 ≤ from) × (from ≤ length text.now) }
     ensures { NextStarLine text.now from result }
 {
-    let mut i = from;
-    while i < text.len() {
+    for i in from..text.len() {
         if text[i] == b'*' && text[i - 1] == 10 {
             return i;
         }
-        i += 1;
     }
-    i
+    text.len()
 }
 
 // The next heading line from a line's start on with at most so many stars, or the text's end. Past the first line, only lines that start with a star

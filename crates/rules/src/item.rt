@@ -1,30 +1,18 @@
-ghost use Rattle.std.specs.Prelude.{◌≡◌, false, ℕ, ◌+◌, ◌-◌, ◌≤◌, ◌<◌, length};
+ghost use Rattle.std.specs.Prelude.{◌≡◌, Bool, false, Some, ℕ, ◌+◌, ◌-◌, ◌≤◌, ◌<◌, length};
 ghost use Rattle.text.specs.Bytes.{is_letter};
 ghost use Rattle.text.specs.Limits.{text_limit};
 ghost use Rattle.text.specs.Lines.{indent};
 ghost use Rattle.text.specs.Parts.{part, line_in};
 ghost use Rattle.rules.specs.Items.{is_item, width_of, is_sign, is_mark, is_box_byte, after_byte, after_counter, ended, after_number, after_set, after_box};
-ghost use Rattle.rules.specs.Bullets.{bullet_of, marks_end, item_test, after_last, or_stay, Leaves};
+ghost use Rattle.rules.specs.Bullets.{bullet_of, marks_end, after_last, Tests, Leaves};
 
-use dates::parts::Past;
-use text::bytes::{Class, is_digit, is_nonblank, lower, run_end};
+use text::bytes::{Class, is_digit, is_nonblank, run_end};
 
-// A bullet, a sign or a number or letter, and the byte right after it.  [02 order 4]
+// A bullet: whether it is a number or letter, and no sign, and the byte right after it.  [02 order 4]
 #[derive(Clone, Copy)]
-pub enum Bullet {
-    Sign(usize),
-    Number(usize),
-    Nothing,
-}
-
-// A class of bytes of which one stands in a bullet, a counter set or a check box: `.` and `)`; `[`; `@`; a blank byte, `X` and `-`; `]`.
-#[derive(Clone, Copy)]
-pub enum ItemByte {
-    Stop,
-    Opening,
-    AtSign,
-    Check,
-    Closing,
+pub struct Bullet {
+    pub numbered: bool,
+    pub end: usize,
 }
 
 // The width of the indentation from a byte up to a body: 8 for a tab, 1 for a space.
@@ -33,14 +21,8 @@ pub fn indent_width(text: &[u8], at: usize, body: usize) -> usize
     ensures { result ≡ width_of (part text.now at body) }
 {
     let mut width = 0;
-    let mut i = at;
-    while i < body {
-        if text[i] == 9 {
-            width += 8;
-        } else {
-            width += 1;
-        }
-        i += 1;
+    for &b in &text[at..body] {
+        width += if b == 9 { 8 } else { 1 };
     }
     width
 }
@@ -48,8 +30,7 @@ pub fn indent_width(text: &[u8], at: usize, body: usize) -> usize
 fn is_letter(b: u8) -> bool
     ensures { result ≡ is_letter b }
 {
-    let c = lower(b);
-    b'a' <= c && c <= b'z'
+    b.is_ascii_alphabetic()
 }
 
 fn is_sign(b: u8, indented: bool) -> bool
@@ -65,128 +46,95 @@ fn is_sign(b: u8, indented: bool) -> bool
 fn is_stop(b: u8) -> bool
     ensures { result ≡ is_mark b }
 {
-    match b {
-        b'.' | b')' => true,
-        _ => false,
-    }
+    matches!(b, b'.' | b')')
 }
 
 fn is_check(b: u8) -> bool
     ensures { result ≡ is_box_byte b }
 {
-    match b {
-        9 | 13 | 32 | b'-' | b'X' | b'x' => true,
-        _ => false,
-    }
+    matches!(b, 9 | 13 | 32 | b'-' | b'X' | b'x')
 }
 
-// Whether a byte is of a class.
-fn is_item_byte(b: u8, class: ItemByte) -> bool
-    ensures { result ≡ item_test class b }
+// Past a byte that passes a test.
+fn after_byte<F: Fn(u8) -> bool>(text: &[u8], at: usize, to: usize, test: F) -> Option<usize>
+    requires bounds { (at ≤ to) × (to ≤ length text.now) }
+    requires test { F.IsAlwaysCallable test }
+    ensures within { (a : ℕ) → result ≡ Some a → a ≤ to }
+    ensures leaves { (t : ℕ → Bool) → Tests (F.post test) t → Leaves text.now at to (after_byte t) result }
 {
-    match class {
-        ItemByte::Stop => is_stop(b),
-        ItemByte::Opening => b == b'[',
-        ItemByte::AtSign => b == b'@',
-        ItemByte::Check => is_check(b),
-        ItemByte::Closing => b == b']',
+    if at < to && test(text[at]) {
+        Some(at + 1)
+    } else {
+        None
     }
-}
-
-// Past a byte of a class.
-fn after_byte(text: &[u8], at: usize, to: usize, class: ItemByte) -> Past
-    requires { (at ≤ to) × (to ≤ length text.now) }
-    ensures { Leaves text.now at to (after_byte (item_test class)) result }
-{
-    if to <= at {
-        return Past::Missing;
-    }
-    if !is_item_byte(text[at], class) {
-        return Past::Missing;
-    }
-    Past::At(at + 1)
 }
 
 // A byte itself, where a blank byte, byte 10 or the end stands there.
-fn if_ended(text: &[u8], at: usize, to: usize) -> Past
+fn if_ended(text: &[u8], at: usize, to: usize) -> Option<usize>
     requires { (at ≤ to) × (to ≤ length text.now) }
     ensures { Leaves text.now at to ended result }
 {
-    if to <= at {
-        return Past::At(at);
+    if at < to && is_nonblank(text[at]) {
+        None
+    } else {
+        Some(at)
     }
-    if is_nonblank(text[at]) {
-        return Past::Missing;
-    }
-    Past::At(at)
 }
 
 // Past a number or one letter.
-fn after_counter(text: &[u8], at: usize, to: usize) -> Past
+fn after_counter(text: &[u8], at: usize, to: usize) -> Option<usize>
     requires { (at ≤ to) × (to ≤ length text.now) }
     ensures { Leaves text.now at to after_counter result }
 {
     if to <= at {
-        return Past::Missing;
+        return None;
     }
     let b = text[at];
     if is_letter(b) {
-        return Past::At(at + 1);
+        return Some(at + 1);
     }
     if is_digit(b) {
-        return Past::At(run_end(text, at + 1, to, Class::Digit));
+        return Some(run_end(text, at + 1, to, Class::Digit));
     }
-    Past::Missing
+    None
 }
 
-// Past a sign, with a blank byte, byte 10 or the end after it. It is not told by a class: most bullets are signs, and this is faster.
-fn after_sign(text: &[u8], at: usize, to: usize, indented: bool) -> Past
-    requires { (at ≤ to) × (to ≤ length text.now) }
-    ensures { Leaves text.now at to (after_last (is_sign indented)) result }
+// Past a byte that passes a test, with a blank byte, byte 10 or the end after it.
+fn after_last<F: Fn(u8) -> bool>(text: &[u8], at: usize, to: usize, test: F) -> Option<usize>
+    requires bounds { (at ≤ to) × (to ≤ length text.now) }
+    requires test { F.IsAlwaysCallable test }
+    ensures { (t : ℕ → Bool) → Tests (F.post test) t → Leaves text.now at to (after_last t) result }
 {
-    if to <= at {
-        return Past::Missing;
-    }
-    if !is_sign(text[at], indented) {
-        return Past::Missing;
-    }
-    if_ended(text, at + 1, to)
-}
-
-// Past a byte of a class, with a blank byte, byte 10 or the end after it.
-fn after_last(text: &[u8], at: usize, to: usize, class: ItemByte) -> Past
-    requires { (at ≤ to) × (to ≤ length text.now) }
-    ensures { Leaves text.now at to (after_last (item_test class)) result }
-{
-    let Past::At(a) = after_byte(text, at, to, class) else {
-        return Past::Missing;
-    };
+    let a = after_byte(text, at, to, test)?;
     if_ended(text, a, to)
 }
 
 // Past a number or one letter with `.` or `)`.
-fn after_number(text: &[u8], at: usize, to: usize) -> Past
+fn after_number(text: &[u8], at: usize, to: usize) -> Option<usize>
     requires { (at ≤ to) × (to ≤ length text.now) }
     ensures { Leaves text.now at to after_number result }
 {
-    let Past::At(a) = after_counter(text, at, to) else {
-        return Past::Missing;
-    };
-    after_last(text, a, to, ItemByte::Stop)
+    let a = after_counter(text, at, to)?;
+    after_last(text, a, to, is_stop)
 }
 
 // The bullet of the line at a byte, whose body starts at `body`.
-pub fn find_bullet(text: &[u8], at: usize, body: usize, to: usize) -> Bullet
+pub fn find_bullet(text: &[u8], at: usize, body: usize, to: usize) -> Option<Bullet>
     requires { (at ≤ to) × (to ≤ length text.now) × (body ≡ at + indent (line_in text.now at to)) }
     ensures { result ≡ bullet_of at (line_in text.now at to) }
 {
-    if let Past::At(a) = after_sign(text, body, to, at < body) {
-        return Bullet::Sign(a);
+    let indented = at < body;
+    if let Some(end) = after_last(text, body, to, |b| is_sign(b, indented)) {
+        return Some(Bullet {
+            numbered: false,
+            end,
+        });
     }
-    let Past::At(a) = after_number(text, body, to) else {
-        return Bullet::Nothing;
-    };
-    Bullet::Number(a)
+    let end = after_number(text, body, to)?;
+    Some(Bullet {
+        numbered: true,
+        end,
+    })
 }
 
 // Whether a line may be an item line, by the first two bytes of its body: most lines of text are told so. Signs lie in `*` to `-`; after the
@@ -217,52 +165,28 @@ pub fn is_item(text: &[u8], at: usize, body: usize, to: usize) -> bool
     if !may_be_item(text, body, to) {
         return false;
     }
-    match find_bullet(text, at, body, to) {
-        Bullet::Sign(_) => true,
-        Bullet::Number(_) => true,
-        Bullet::Nothing => false,
-    }
+    find_bullet(text, at, body, to).is_some()
 }
 
 // Past a counter set: `[@`, a number or one letter, `]`.
-fn after_set(text: &[u8], at: usize, to: usize) -> Past
+fn after_set(text: &[u8], at: usize, to: usize) -> Option<usize>
     requires { (at ≤ to) × (to ≤ length text.now) }
     ensures { Leaves text.now at to after_set result }
 {
-    let Past::At(a) = after_byte(text, at, to, ItemByte::Opening) else {
-        return Past::Missing;
-    };
-    let Past::At(b) = after_byte(text, a, to, ItemByte::AtSign) else {
-        return Past::Missing;
-    };
-    let Past::At(c) = after_counter(text, b, to) else {
-        return Past::Missing;
-    };
-    after_last(text, c, to, ItemByte::Closing)
+    let a = after_byte(text, at, to, |b| b == b'[')?;
+    let b = after_byte(text, a, to, |b| b == b'@')?;
+    let c = after_counter(text, b, to)?;
+    after_last(text, c, to, |b| b == b']')
 }
 
 // Past a check box: `[`, a blank byte, `X` or `-`, `]`.
-fn after_box(text: &[u8], at: usize, to: usize) -> Past
+fn after_box(text: &[u8], at: usize, to: usize) -> Option<usize>
     requires { (at ≤ to) × (to ≤ length text.now) }
     ensures { Leaves text.now at to after_box result }
 {
-    let Past::At(a) = after_byte(text, at, to, ItemByte::Opening) else {
-        return Past::Missing;
-    };
-    let Past::At(b) = after_byte(text, a, to, ItemByte::Check) else {
-        return Past::Missing;
-    };
-    after_last(text, b, to, ItemByte::Closing)
-}
-
-// The byte after what was found, or else a byte.
-fn or_stay(at: usize, found: Past) -> usize
-    ensures { result ≡ or_stay at found }
-{
-    match found {
-        Past::At(a) => a,
-        Past::Missing => at,
-    }
+    let a = after_byte(text, at, to, |b| b == b'[')?;
+    let b = after_byte(text, a, to, is_check)?;
+    after_last(text, b, to, |b| b == b']')
 }
 
 // Where what is left on an item's line starts: past the blank bytes after the bullet, and a counter set and a check box, as present, with the
@@ -272,6 +196,8 @@ pub fn item_start(text: &[u8], after: usize, end: usize) -> usize
     ensures { result ≡ marks_end after (line_in text.now after end) }
 {
     let a = run_end(text, after, end, Class::Blank);
-    let b = run_end(text, or_stay(a, after_set(text, a, end)), end, Class::Blank);
-    run_end(text, or_stay(b, after_box(text, b, end)), end, Class::Blank)
+    let set_end = after_set(text, a, end).unwrap_or(a);
+    let b = run_end(text, set_end, end, Class::Blank);
+    let box_end = after_box(text, b, end).unwrap_or(b);
+    run_end(text, box_end, end, Class::Blank)
 }

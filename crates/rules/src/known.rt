@@ -7,7 +7,7 @@ use text::line::line_at;
 use text::word::begins_with;
 
 // Every name may close: nothing is known.
-pub const ANY_NAME: u64 = 18446744073709551615;
+pub const ANY_NAME: u64 = u64::MAX;
 
 // A number below 63 for a name: the same for names that differ in case only.
 fn name_number(text: &[u8], from: usize, to: usize) -> u64
@@ -15,10 +15,8 @@ fn name_number(text: &[u8], from: usize, to: usize) -> u64
     ensures { (result ≡ name_number (part text.now from to)) × (result < 63) }
 {
     let mut n: u64 = 0;
-    let mut i = from;
-    while i < to {
-        n = (n * 5 + lower(text[i]) as u64) % 63;
-        i += 1;
+    for &b in &text[from..to] {
+        n = (n * 5 + lower(b) as u64) % 63;
     }
     n
 }

@@ -1,8 +1,8 @@
 // Scans for the lines of an item and of a list.  [02 order 4]
-ghost use Rattle.std.specs.Prelude.{◌≡◌, true, ◌≤◌, length};
+ghost use Rattle.std.specs.Prelude.{◌≡◌, Some, ◌≤◌, length};
 ghost use Rattle.text.specs.Limits.{text_limit};
 ghost use Rattle.rules.specs.Findings.{InScope};
-ghost use Rattle.rules.specs.Scans.{together_run, item_run, list_run, next_of, Tells, Begins, LinesFrom, StartsIn, ListIn};
+ghost use Rattle.rules.specs.Scans.{together_run, item_run, list_run, next_of, Tells, Stretches, LinesFrom, StartsIn, ListIn};
 
 use crate::ahead::{Further, ends_after, names_after};
 use crate::first_rule::find_rule;
@@ -63,89 +63,68 @@ fn lines_together(text: &[u8], start: usize, body: usize, scope: Scope) -> Furth
 
 // The next line that is not blank: where it and its body start, its indentation, and how many blank lines stand before it, one at most.
 #[derive(Clone, Copy)]
-pub enum Next {
-    Line {
-        start: usize,
-        body: usize,
-        width: usize,
-        blanks: usize,
-    },
-    Nothing,
+pub struct Next {
+    pub start: usize,
+    pub body: usize,
+    pub width: usize,
+    pub blanks: usize,
 }
 
 // The line at a byte, or after one blank line: an item or a list may go on with it. Two blank lines together end both.
-fn find_next(text: &[u8], at: usize, to: usize) -> Next
+fn find_next(text: &[u8], at: usize, to: usize) -> Option<Next>
     requires { (at ≤ to) × (to ≤ length text.now) × (to ≤ text_limit) }
     ensures { result ≡ next_of text.now at to }
 {
     let first = first_line(text, at, to);
     let start = first.at;
     if to <= start {
-        return Next::Nothing;
+        return None;
     }
     if 1 < first.lines {
-        return Next::Nothing;
+        return None;
     }
     let body = run_end(text, start, to, Class::Indent);
-    Next::Line {
-        start: start,
-        body: body,
+    Some(Next {
+        start,
+        body,
         width: indent_width(text, start, body),
         blanks: first.lines,
-    }
+    })
 }
 
-// Lines of an item, and whether they are all that it has.
+// Lines of an item: all that it has, or the first of them, after which it goes on.
 #[derive(Clone, Copy)]
-pub struct Stretch {
-    pub run: LineRun,
-    pub whole: bool,
+pub enum Stretch {
+    Whole(LineRun),
+    Begun(LineRun),
 }
 
-// The lines of an item before the first that may start a block, drawer or table: most items have none.
+// The lines of an item before the first that may start a block, drawer or table: most items have none. This loop and the three below end at
+// different lines and carry different things, so one with the steps as closures were no plainer.
 fn lines_alone(text: &[u8], from: usize, width: usize, to: usize) -> Stretch
     requires { (from ≤ to) × (to ≤ length text.now) × (to ≤ text_limit) }
-    ensures { Begins text.now from to width result }
+    ensures { Stretches text.now from to width result }
 {
     let mut at = from;
     let mut n = 0;
-    loop {
-        let Next::Line {
-            start: _,
-            body,
-            width: column,
-            blanks,
-        } = find_next(text, at, to)
-        else {
-            break;
-        };
-        if column <= width {
+    while let Some(line) = find_next(text, at, to) {
+        if line.width <= width {
             break;
         }
-        let first = text[body];
-        match first {
-            b'#' | b':' | b'|' => {
-                return Stretch {
-                    run: LineRun { end: at, lines: n },
-                    whole: false,
-                };
-            }
-            _ => {}
+        if matches!(text[line.body], b'#' | b':' | b'|') {
+            return Stretch::Begun(LineRun { end: at, lines: n });
         }
-        at = line_end(text, body, to);
-        n += blanks + 1;
+        at = line_end(text, line.body, to);
+        n += line.blanks + 1;
     }
-    Stretch {
-        run: LineRun { end: at, lines: n },
-        whole: true,
-    }
+    Stretch::Whole(LineRun { end: at, lines: n })
 }
 
 // Lines up to the end: where each is indented more than the item, and no two blank lines stand before one, they are the item's, whatever blocks,
 // drawers and tables there are, and no closer need be sought.
-fn lines_to_end(text: &[u8], from: usize, width: usize, to: usize) -> Stretch
+fn lines_to_end(text: &[u8], from: usize, width: usize, to: usize) -> Option<LineRun>
     requires { (from ≤ to) × (to ≤ length text.now) × (to ≤ text_limit) }
-    ensures { result.whole ≡ true → result.run ≡ item_run text.now from to width }
+    ensures { (run : LineRun) → result ≡ Some run → run ≡ item_run text.now from to width }
 {
     let mut at = from;
     let mut n = 0;
@@ -153,21 +132,14 @@ fn lines_to_end(text: &[u8], from: usize, width: usize, to: usize) -> Stretch
         let first = first_line(text, at, to);
         let start = first.at;
         if to <= start {
-            break;
+            return Some(LineRun { end: at, lines: n });
         }
         let body = run_end(text, start, to, Class::Indent);
         if 1 < first.lines || indent_width(text, start, body) <= width {
-            return Stretch {
-                run: LineRun { end: at, lines: n },
-                whole: false,
-            };
+            return None;
         }
         at = line_end(text, body, to);
         n += first.lines + 1;
-    }
-    Stretch {
-        run: LineRun { end: at, lines: n },
-        whole: true,
     }
 }
 
@@ -181,36 +153,27 @@ fn lines_by_closers(text: &[u8], from: usize, width: usize, scope: Scope) -> Fur
     let mut n = 0;
     let mut ends = scope.ends;
     let mut names = scope.names;
-    loop {
-        let Next::Line {
-            start,
-            body,
-            width: indent,
-            blanks,
-        } = find_next(text, at, to)
-        else {
-            break;
-        };
-        if indent <= width {
+    while let Some(next) = find_next(text, at, to) {
+        if next.width <= width {
             break;
         }
         let here = Scope {
             end: to,
             place: Place::Elsewhere,
-            ends: ends,
-            names: names,
+            ends,
+            names,
         };
-        let further = lines_together(text, start, body, here);
+        let further = lines_together(text, next.start, next.body, here);
         let run = further.run;
         at = run.end;
-        n += blanks + run.lines;
+        n += next.blanks + run.lines;
         ends = further.ends;
         names = further.names;
     }
     Further {
         run: LineRun { end: at, lines: n },
-        ends: ends,
-        names: names,
+        ends,
+        names,
     }
 }
 
@@ -219,16 +182,14 @@ fn item_rest(text: &[u8], from: usize, width: usize, scope: Scope) -> Further
     requires { LinesFrom text.now from scope }
     ensures { Tells text.now scope.end (item_run text.now from scope.end width) result }
 {
-    let rest = lines_to_end(text, from, width, scope.end);
-    let run = rest.run;
-    if rest.whole {
-        return Further {
-            run: run,
+    match lines_to_end(text, from, width, scope.end) {
+        Some(run) => Further {
+            run,
             ends: scope.ends,
             names: scope.names,
-        };
+        },
+        None => lines_by_closers(text, from, width, scope),
     }
-    lines_by_closers(text, from, width, scope)
 }
 
 // The further lines of an item: up to a line that is indented no more, two blank lines, or the end.
@@ -236,24 +197,24 @@ pub fn item_end(text: &[u8], from: usize, width: usize, scope: Scope) -> Further
     requires { LinesFrom text.now from scope }
     ensures { Tells text.now scope.end (item_run text.now from scope.end width) result }
 {
-    let alone = lines_alone(text, from, width, scope.end);
-    let begun = alone.run;
-    if alone.whole {
-        return Further {
-            run: begun,
+    match lines_alone(text, from, width, scope.end) {
+        Stretch::Whole(run) => Further {
+            run,
             ends: scope.ends,
             names: scope.names,
-        };
-    }
-    let further = item_rest(text, begun.end, width, scope);
-    let run = further.run;
-    Further {
-        run: LineRun {
-            end: run.end,
-            lines: begun.lines + run.lines,
         },
-        ends: further.ends,
-        names: further.names,
+        Stretch::Begun(begun) => {
+            let further = item_rest(text, begun.end, width, scope);
+            let run = further.run;
+            Further {
+                run: LineRun {
+                    end: run.end,
+                    lines: begun.lines + run.lines,
+                },
+                ends: further.ends,
+                names: further.names,
+            }
+        }
     }
 }
 
@@ -271,8 +232,8 @@ pub fn list_end(text: &[u8], line: LineSpan, width: usize, scope: Scope) -> Furt
         let here = Scope {
             end: to,
             place: Place::Elsewhere,
-            ends: ends,
-            names: names,
+            ends,
+            names,
         };
         let further = item_end(text, at, width, here);
         let run = further.run;
@@ -280,27 +241,21 @@ pub fn list_end(text: &[u8], line: LineSpan, width: usize, scope: Scope) -> Furt
         n += run.lines;
         ends = further.ends;
         names = further.names;
-        let Next::Line {
-            start,
-            body,
-            width: indent,
-            blanks,
-        } = find_next(text, at, to)
-        else {
+        let Some(next) = find_next(text, at, to) else {
             break;
         };
-        if indent != width {
+        if next.width != width {
             break;
         }
-        if !is_item(text, start, body, to) {
+        if !is_item(text, next.start, next.body, to) {
             break;
         }
-        at = line_end(text, body, to);
-        n += blanks + 1;
+        at = line_end(text, next.body, to);
+        n += next.blanks + 1;
     }
     Further {
         run: LineRun { end: at, lines: n },
-        ends: ends,
-        names: names,
+        ends,
+        names,
     }
 }

@@ -7,7 +7,7 @@ ghost use Rattle.rules.specs.Lists.{item, list_of};
 ghost use Rattle.rules.specs.Findings.{LineOf, InScope, Parses};
 
 use crate::ahead::Parsed;
-use crate::item::{Bullet, find_bullet, indent_width, item_start};
+use crate::item::{find_bullet, indent_width, item_start};
 use crate::kind;
 use crate::list::{item_end, list_end};
 use crate::rule::Element;
@@ -19,9 +19,10 @@ fn list_detail(text: &[u8], line: LineSpan, to: usize) -> usize
     requires { LineOf text.now line to }
     ensures { result ≡ list_detail (line_in text.now line.start to) }
 {
-    match find_bullet(text, line.start, line.from, to) {
-        Bullet::Number(_) => 1,
-        _ => 2,
+    if find_bullet(text, line.start, line.from, to).is_some_and(|bullet| bullet.numbered) {
+        1
+    } else {
+        2
     }
 }
 
@@ -54,9 +55,8 @@ fn left_start(text: &[u8], line: LineSpan, to: usize) -> usize
     ensures { result ≡ line.start + item_start (line_in text.now line.start to) }
 {
     match find_bullet(text, line.start, line.from, to) {
-        Bullet::Sign(after) => item_start(text, after, line.end),
-        Bullet::Number(after) => item_start(text, after, line.end),
-        Bullet::Nothing => line.end,
+        Some(bullet) => item_start(text, bullet.end, line.end),
+        None => line.end,
     }
 }
 

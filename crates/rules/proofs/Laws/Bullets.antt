@@ -13,6 +13,9 @@ use lib.ListN.{length, get_or, drop, length-drop, drop_of_length-le}
 use lib.Seq.{drop-drop, drop-nil}
 use borrow.Table.Steps.{cases}
 use borrow.Author.Tests.{lt-ltb, le-ltb, ltb-true, ltb-false, leb-true, leb-false, ne_eqb}
+use Rattle.std.specs.Option as Code
+use Rattle.std.specs.declared.option.Option as Options
+use Rattle.std.specs.declared.option.Option.TheVariants.{None, Some}
 use Rattle.text.specs.Bytes.{is_newline, is_blank, is_indent, is_non_blank, is_letter, is_digit, lower}
 use Rattle.text.specs.Runs.{run, after_run}
 use Rattle.text.specs.Lines.{Line, indent}
@@ -22,15 +25,11 @@ use Rattle.text.proofs.Laws.Runs.{run-length-le, run-part-to, after_run-drop}
 use Rattle.text.proofs.Laws.Parts.{part-drop}
 use Rattle.text.proofs.Laws.Lines.{line, line-nil, line-newline, line_other, run-line}
 use Rattle.text.proofs.Laws.LinesIn.{line_in-nil, line_in-cons, line_in-next, line_in-some, line_in-part, line_in-after_run, indent-part}
-use Rattle.dates.specs.declared.parts.Past.{Past}
-use Rattle.dates.specs.declared.parts.Past.TheVariants.{At, Missing}
 use Rattle.rules.specs.Items.{Part, after_byte, after_counter, is_ended, ended, and_then, after_all, is_sign, after_sign, is_mark, after_number}
-use Rattle.rules.specs.Items.{or_then, after_bullet, is_item, list_detail, is_byte, is_box_byte, after_set, after_box, past, item_text, item_start}
-use Rattle.rules.specs.Bullets.{bullet_of, bullet_end, is_bullet, bullet_detail, after_marks, marks_end, item_test, after_last}
-use Rattle.rules.specs.Bullets.{left_at, OnLine, FoundOn, Leaves, or_stay}
-use Rattle.rules.specs.declared.item.Bullet.TheVariants.{Sign, Number, Nothing}
-use Rattle.rules.specs.declared.item.ItemByte.{ItemByte}
-use Rattle.rules.specs.declared.item.ItemByte.TheVariants as Bytes
+use Rattle.rules.specs.Items.{or_then, after_bullet, is_item, list_detail, is_box_byte, after_set, after_box, past, item_text, item_start}
+use Rattle.rules.specs.Bullets.{bullet_of, is_numbered, after_marks, marks_end, after_last}
+use Rattle.rules.specs.Bullets.{left_at, OnLine, FoundOn, Leaves}
+use Rattle.rules.specs.declared.item.Bullet.{Bullet}
 use Rattle.rules.proofs.Basics.{options, All, all_nil, all_cons}
 use Rattle.rules.proofs.Laws.Bodies.{line_in-first}
 use Rattle.rules.proofs.Laws.Items.{after_bullet-less, after_marks-le}
@@ -62,19 +61,16 @@ module _ (b : ℕ) where
   unfolding is_mark
   is_mark-no h = rw (ne_eqb b 46 (λ e. h (inr e)), ne_eqb b 41 (λ e. h (inl e)))
 
--- byte 10 is no sign, and of no class
+-- byte 10 is no sign
 pub is_sign-newline : (i : Bool) → is_sign i 10 ≡ false
 unfolding is_sign
 is_sign-newline true = refl
 is_sign-newline false = refl
 
-pub item_test-newline : (c : ItemByte) → item_test c 10 ≡ false
-unfolding is_mark is_byte is_box_byte is_blank lower
-item_test-newline Bytes.Stop = refl
-item_test-newline Bytes.Opening = refl
-item_test-newline Bytes.AtSign = refl
-item_test-newline Bytes.Check = refl
-item_test-newline Bytes.Closing = refl
+-- nor does it stand in a check box
+pub is_box_byte-newline : is_box_byte 10 ≡ false
+unfolding is_box_byte is_blank lower
+is_box_byte-newline = refl
 
 pub is_box_byte-yes : (b : ℕ) → (b ≡ 9) ⊎ ((b ≡ 13) ⊎ ((b ≡ 32) ⊎ ((b ≡ 45) ⊎ ((b ≡ 88) ⊎ (b ≡ 120))))) → is_box_byte b ≡ true
 unfolding is_box_byte is_blank lower
@@ -138,15 +134,15 @@ module _ (s : List ℕ) (p e : ℕ) where
 -- ---- one byte
 
 module _ (s : List ℕ) (p e : ℕ) where
-  pub byte-none : (f : ℕ → Bool) → e ≤ p → Leaves s p e (after_byte f) Missing
+  pub byte-none : (f : ℕ → Bool) → e ≤ p → Leaves s p e (after_byte f) None
   unfolding after_byte
   byte-none f h = record { is = rw (line_in-nil s p e h); on = tt }
 
-  pub ended-end : p ≤ e → e ≤ p → Leaves s p e ended (At p)
+  pub ended-end : p ≤ e → e ≤ p → Leaves s p e ended (Some p)
   unfolding ended
   ended-end i h = record { is = rw (line_in-nil s p e h); on = on_line-here s p e i }
 
-  pub counter-none : e ≤ p → Leaves s p e after_counter Missing
+  pub counter-none : e ≤ p → Leaves s p e after_counter None
   unfolding after_counter
   counter-none h = record { is = rw (line_in-nil s p e h); on = tt }
 
@@ -157,11 +153,11 @@ module _ (s : List ℕ) (p e : ℕ) where
     not-newline : (f : ℕ → Bool) → f 10 ≡ false → f byte ≡ true → (byte ≡ 10 → ⊥)
     not-newline f n y t = false≢true (sym n ∙ (rw t at y))
 
-    pub byte-no : (f : ℕ → Bool) → f byte ≡ false → Leaves s p e (after_byte f) Missing
+    pub byte-no : (f : ℕ → Bool) → f byte ≡ false → Leaves s p e (after_byte f) None
     unfolding after_byte
     byte-no f n = record { is = ap (after_byte f) (line_in-first s p e h k) ∙ rw (n, after_byte); on = tt }
 
-    pub byte-yes : (f : ℕ → Bool) → f 10 ≡ false → f byte ≡ true → Leaves s p e (after_byte f) (At (p + 1))
+    pub byte-yes : (f : ℕ → Bool) → f 10 ≡ false → f byte ≡ true → Leaves s p e (after_byte f) (Some (p + 1))
     unfolding after_byte
     byte-yes f n y =
         let i = not-newline f n y in
@@ -171,26 +167,26 @@ module _ (s : List ℕ) (p e : ℕ) where
     unfolding is_ended
     is_ended-first = ap is_ended (line_in-first s p e h k)
 
-    pub ended-no : is_non_blank byte ≡ true → Leaves s p e ended Missing
+    pub ended-no : is_non_blank byte ≡ true → Leaves s p e ended None
     unfolding ended
     ended-no n = record { is = rw (is_ended-first ∙ ap not n, ended); on = tt }
 
-    pub ended-yes : is_non_blank byte ≡ false → Leaves s p e ended (At p)
+    pub ended-yes : is_non_blank byte ≡ false → Leaves s p e ended (Some p)
     unfolding ended
     ended-yes n = record { is = rw (is_ended-first ∙ ap not n, ended); on = on_line-here s p e (omega arith) }
 
-    pub counter-letter : is_letter byte ≡ true → Leaves s p e after_counter (At (p + 1))
+    pub counter-letter : is_letter byte ≡ true → Leaves s p e after_counter (Some (p + 1))
     unfolding after_counter is_letter lower
     counter-letter y =
         let i = not-newline is_letter refl y in
         record { is = ap after_counter (line_in-cons s p e h k i) ∙ rw (y, after_counter); on = on_line-next s p e h k i }
 
-    pub counter-other : is_letter byte ≡ false → is_digit byte ≡ false → Leaves s p e after_counter Missing
+    pub counter-other : is_letter byte ≡ false → is_digit byte ≡ false → Leaves s p e after_counter None
     unfolding after_counter
     counter-other n m = record { is = ap after_counter (line_in-first s p e h k) ∙ rw (n, m, after_counter); on = tt }
 
     pub counter-digits : is_letter byte ≡ false → is_digit byte ≡ true → (q : ℕ) → q ≡ p + 1 + length (run is_digit (part s (p + 1) e))
-        → Leaves s p e after_counter (At q)
+        → Leaves s p e after_counter (Some q)
     unfolding after_counter is_digit
     counter-digits n y q i =
         let j = not-newline is_digit refl y in
@@ -202,36 +198,36 @@ module _ (s : List ℕ) (p e : ℕ) where
 -- ---- parts one after another
 
 module _ (s : List ℕ) (p e : ℕ) where
-  found-then : (q : ℕ) (r : Past) → OnLine s p e q → FoundOn s q e r → FoundOn s p e r
-  found-then q Missing h k = tt
-  found-then q (At r) h k = on_line-then s p e q r h k
+  found-then : (q : ℕ) (r : Options.Option ℕ) → OnLine s p e q → FoundOn s q e r → FoundOn s p e r
+  found-then q None h k = tt
+  found-then q (Some r) h k = on_line-then s p e q r h k
 
   module _ (f : Part) where
-    pub leaves_none : (fs : List Part) → Leaves s p e f Missing → Leaves s p e (after_all (f ∷ fs)) Missing
+    pub leaves_none : (fs : List Part) → Leaves s p e f None → Leaves s p e (after_all (f ∷ fs)) None
     unfolding after_all
     leaves_none fs h = record { is = rw h.is; on = tt }
 
-    pub leaves-then : (fs : List Part) (q : ℕ) (r : Past) → Leaves s p e f (At q) → Leaves s q e (after_all fs) r → Leaves s p e (after_all (f ∷ fs)) r
+    pub leaves-then : (fs : List Part) (q : ℕ) (r : Options.Option ℕ) → Leaves s p e f (Some q) → Leaves s q e (after_all fs) r → Leaves s p e (after_all (f ∷ fs)) r
     unfolding after_all
     leaves-then fs q r h k = record { is = rw h.is k.is; on = found-then q r h.on k.on }
 
-    pub leaves_last : (r : Past) → Leaves s p e f r → Leaves s p e (after_all (f ∷ [])) r
+    pub leaves_last : (r : Options.Option ℕ) → Leaves s p e f r → Leaves s p e (after_all (f ∷ [])) r
     unfolding after_all
-    leaves_last Missing h = record { is = rw h.is; on = tt }
-    leaves_last (At q) h = record { is = rw h.is; on = h.on }
+    leaves_last None h = record { is = rw h.is; on = tt }
+    leaves_last (Some q) h = record { is = rw h.is; on = h.on }
 
 -- ---- past a part and the blank bytes after it
 
 module _ (s : List ℕ) (p e : ℕ) (h : p ≤ e) (k : e ≤ length s) (f : Part) where
-  pub stay-on : (r : Past) → Leaves s p e f r → OnLine s p e (or_stay p r)
-  stay-on Missing g = on_line-here s p e h
-  stay-on (At a) g = g.on
+  pub stay-on : (r : Options.Option ℕ) → Leaves s p e f r → OnLine s p e (Code.unwrap_or r p)
+  stay-on None g = on_line-here s p e h
+  stay-on (Some a) g = g.on
 
-  stay-is : (r : Past) → Leaves s p e f r → Option.get_or (f (line_in s p e)) (line_in s p e) ≡ line_in s (or_stay p r) e
-  stay-is Missing g = rw g.is
-  stay-is (At a) g = rw g.is
+  stay-is : (r : Options.Option ℕ) → Leaves s p e f r → Option.get_or (f (line_in s p e)) (line_in s p e) ≡ line_in s (Code.unwrap_or r p) e
+  stay-is None g = rw g.is
+  stay-is (Some a) g = rw g.is
 
-  module _ (r : Past) (g : Leaves s p e f r) (a : ℕ) (j : a ≡ or_stay p r) where
+  module _ (r : Options.Option ℕ) (g : Leaves s p e f r) (a : ℕ) (j : a ≡ Code.unwrap_or r p) where
     pub stay-to : a ≤ e
     stay-to = rw j (stay-on r g).to
 
@@ -261,15 +257,15 @@ module _ (p : ℕ) (l : Line) where
   abbrev sign : Option (List ℕ)
   sign = after_sign (ltb 0 (indent l)) text
 
-  bullet_of-sign : (y : List ℕ) → sign ≡ some y → bullet_of p l ≡ Sign (p + (length l - length y))
+  bullet_of-sign : (y : List ℕ) → sign ≡ some y → bullet_of p l ≡ Some (record { numbered = false; end = p + (length l - length y) })
   unfolding bullet_of
   bullet_of-sign y h = rw (h, bullet_of)
 
-  bullet_of-number : (y : List ℕ) → sign ≡ none → after_number text ≡ some y → bullet_of p l ≡ Number (p + (length l - length y))
+  bullet_of-number : (y : List ℕ) → sign ≡ none → after_number text ≡ some y → bullet_of p l ≡ Some (record { numbered = true; end = p + (length l - length y) })
   unfolding bullet_of
   bullet_of-number y h k = rw (h, k, bullet_of)
 
-  bullet_of-nothing : sign ≡ none → after_number text ≡ none → bullet_of p l ≡ Nothing
+  bullet_of-nothing : sign ≡ none → after_number text ≡ none → bullet_of p l ≡ None
   unfolding bullet_of
   bullet_of-nothing h k = rw (h, k, bullet_of)
 
@@ -294,24 +290,25 @@ module _ (s : List ℕ) (p e b : ℕ) (h : b ≡ p + indent (line_in s p e)) (i 
       (λ t. let j = ltb-true p b t in rw t (lt-ltb 0 (indent whole) (omega arith)))
       (λ t. let j = ltb-false p b t in rw t (le-ltb 0 (indent whole) (omega arith)))
 
-  sign-is : (r : Past) → Leaves s b e (after_last (is_sign (ltb p b))) r → sign p whole ≡ left_at s e r
+  sign-is : (r : Options.Option ℕ) → Leaves s b e (after_last (is_sign (ltb p b))) r → sign p whole ≡ left_at s e r
   unfolding after_sign
   sign-is r g = rw (indented, body_is) g.is
 
-  number_is : (r : Past) → Leaves s b e after_number r → after_number (text p whole) ≡ left_at s e r
+  number_is : (r : Options.Option ℕ) → Leaves s b e after_number r → after_number (text p whole) ≡ left_at s e r
   number_is r g = rw body_is g.is
 
   place : (q : ℕ) → OnLine s b e q → q ≡ p + (length whole - length (line_in s q e))
   place q o = omega (arith, o.end, body-on.end, o.from, body-on.from)
 
-  pub bullet-sign : (q : ℕ) → Leaves s b e (after_last (is_sign (ltb p b))) (At q) → Sign q ≡ bullet_of p whole
-  bullet-sign q g = ap Sign (place q g.on) ∙ sym (bullet_of-sign p whole _ (sign-is (At q) g))
+  pub bullet-sign : (q : ℕ) → Leaves s b e (after_last (is_sign (ltb p b))) (Some q) → Some (record { numbered = false; end = q }) ≡ bullet_of p whole
+  bullet-sign q g = ap (λ (k : ℕ). Some (record { numbered = false; end = k })) (place q g.on) ∙ sym (bullet_of-sign p whole _ (sign-is (Some q) g))
 
-  pub bullet-number : (q : ℕ) → Leaves s b e (after_last (is_sign (ltb p b))) Missing → Leaves s b e after_number (At q) → Number q ≡ bullet_of p whole
-  bullet-number q n g = ap Number (place q g.on) ∙ sym (bullet_of-number p whole _ (sign-is Missing n) (number_is (At q) g))
+  pub bullet-number : (q : ℕ) → Leaves s b e (after_last (is_sign (ltb p b))) None → Leaves s b e after_number (Some q)
+      → Some (record { numbered = true; end = q }) ≡ bullet_of p whole
+  bullet-number q n g = ap (λ (k : ℕ). Some (record { numbered = true; end = k })) (place q g.on) ∙ sym (bullet_of-number p whole _ (sign-is None n) (number_is (Some q) g))
 
-  pub bullet-nothing : Leaves s b e (after_last (is_sign (ltb p b))) Missing → Leaves s b e after_number Missing → Nothing ≡ bullet_of p whole
-  bullet-nothing n g = sym (bullet_of-nothing p whole (sign-is Missing n) (number_is Missing g))
+  pub bullet-nothing : Leaves s b e (after_last (is_sign (ltb p b))) None → Leaves s b e after_number None → None ≡ bullet_of p whole
+  bullet-nothing n g = sym (bullet_of-nothing p whole (sign-is None n) (number_is None g))
 
 -- ---- for callers: what the bullet found tells of the line
 
@@ -328,25 +325,24 @@ sign-number i (b ∷ x) y h = cases (ltb b 48)
     absurd (omega arith))
 
 module _ (p : ℕ) (l : Line) where
-  pub is_item-bullet : is_item l ≡ is_bullet (bullet_of p l)
-  unfolding is_item after_bullet or_then is_bullet
+  pub is_item-bullet : is_item l ≡ Code.is_some (bullet_of p l)
+  unfolding is_item after_bullet or_then
   is_item-bullet = options (sign p l)
       (λ h. options (after_number (text p l))
       (λ k. rw (bullet_of-nothing p l h k, h, k))
       (λ y k. rw (bullet_of-number p l y h k, h, k)))
       (λ y h. rw (bullet_of-sign p l y h, h))
 
-  pub list_detail-bullet : list_detail l ≡ bullet_detail (bullet_of p l)
-  unfolding list_detail bullet_detail
+  pub list_detail-bullet : list_detail l ≡ elim (is_numbered (bullet_of p l)) [ true ↦ 1 | false ↦ 2 ]
+  unfolding list_detail is_numbered
   list_detail-bullet = options (sign p l)
       (λ h. options (after_number (text p l))
       (λ k. rw (bullet_of-nothing p l h k, k, list_detail))
       (λ y k. rw (bullet_of-number p l y h k, k, list_detail)))
       (λ y h. rw (bullet_of-sign p l y h, sign-number _ _ y h, list_detail))
 
-  pub item-nothing : Nothing ≡ bullet_of p l → is_item l ≡ false
-  unfolding is_bullet
-  item-nothing h = is_item-bullet ∙ ap is_bullet (sym h)
+  pub item-nothing : None ≡ bullet_of p l → is_item l ≡ false
+  item-nothing h = is_item-bullet ∙ ap Code.is_some (sym h)
 
 -- ---- what is left of some bytes is the end of them
 
@@ -440,43 +436,46 @@ record After (p : ℕ) (l : Line) (q : ℕ) : Type 0 where
   pub is : after_bullet l ≡ some left
   pub at : q ≡ p + (length l - length left)
 
-bullet-after : (p : ℕ) (l : Line) (q : ℕ) → bullet_end (bullet_of p l) ≡ some q → After p l q
+bullet-after : (p : ℕ) (l : Line) (b : Bullet) → Some b ≡ bullet_of p l → After p l b.end
 unfolding after_bullet or_then
-bullet-after p l q e = options (sign p l)
+bullet-after p l b e = options (sign p l)
     (λ h. options (after_number (text p l))
-    (λ k. let z : none ≡ some q = rw (bullet_of-nothing p l h k) at e in
-    let w : ◌≡◌ {A = ℕ} 0 1 = cc in
-    absurd (omega arith))
-    (λ y k. let z : some (p + (length l - length y)) ≡ some q = rw (bullet_of-number p l y h k) at e in
-    record { left = y; is = rw (h, k); at = cc }))
-    (λ y h. let z : some (p + (length l - length y)) ≡ some q = rw (bullet_of-sign p l y h) at e in
-    record { left = y; is = rw h; at = cc })
+    (λ k. let z : Some b ≡ None = rw (bullet_of-nothing p l h k) at e in cc)
+    (λ y k. let z = rw (bullet_of-number p l y h k) at e in
+    let w : b ≡ record { numbered = true; end = p + (length l - length y) } = cc in
+    record { left = y; is = rw (h, k); at = ap (λ (x : Bullet). x.end) w }))
+    (λ y h. let z = rw (bullet_of-sign p l y h) at e in
+    let w : b ≡ record { numbered = false; end = p + (length l - length y) } = cc in
+    record { left = y; is = rw h; at = ap (λ (x : Bullet). x.end) w })
 
 -- of the line at byte p, which ends at byte n, and whose bullet ends at byte q
-module _ (s : List ℕ) (p e q : ℕ) (h : p < e) (k : e ≤ length s) (n : ℕ) (j : n ≡ p + length (line_in s p e)) where
+module _ (s : List ℕ) (p e : ℕ) (h : p < e) (k : e ≤ length s) (n : ℕ) (j : n ≡ p + length (line_in s p e)) where
   abbrev item : Line
   item = line_in s p e
 
   -- what is left after it is the rest of the line
-  rest-is : (y : List ℕ) → after_bullet item ≡ some y → q ≡ p + (length item - length y) → line_in s q n ≡ y
+  rest-is : (q : ℕ) (y : List ℕ) → after_bullet item ≡ some y → q ≡ p + (length item - length y) → line_in s q n ≡ y
   unfolding line_in lines_in
-  rest-is y f a =
+  rest-is q y f a =
       let m = length item - length y in
       let d : y ≡ drop m item = tail-length item y (rw f at (tails-bullet item)) in
       let r : part s q n ≡ drop m item = rw (a, j) (sym (part-drop s m p (p + length item)) ∙ ap (drop m) (sym (line_in-part s p e))) in
       ap line r ∙ line-end m (part s p e) ∙ sym d
 
-  module _ (i : bullet_end (bullet_of p (line_in s p e)) ≡ some q) where
+  module _ (b : Bullet) (i : Some b ≡ bullet_of p (line_in s p e)) where
+    abbrev q : ℕ
+    q = b.end
+
     pub bullet-order : (p < q) × (q ≤ n)
     bullet-order =
-        let f = bullet-after p item q i in
+        let f = bullet-after p item b i in
         omega (arith, f.at, after_bullet-less item f.left f.is (line_in-some s p e h k))
 
     -- where what is left on the line starts
     pub start_is : (r : ℕ) → r ≡ marks_end q (line_in s q n) → r ≡ p + item_start item
     unfolding marks_end after_marks item_start item_text
     start_is r g =
-        let f = bullet-after p item q i in
+        let f = bullet-after p item b i in
         let y = f.left in
         let t : item_text item ≡ after_marks y = rw (f.is, item_text) in
-        g ∙ rw (rest-is y f.is f.at, t) (omega (arith, f.at, after_bullet-less item y f.is (line_in-some s p e h k), after_marks-le y))
+        g ∙ rw (rest-is q y f.is f.at, t) (omega (arith, f.at, after_bullet-less item y f.is (line_in-some s p e h k), after_marks-le y))

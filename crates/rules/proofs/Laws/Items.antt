@@ -8,7 +8,9 @@ use mathlib.Core.Option.{Option, none, some}
 use Prim.Native.Nat.{ℕ, suc, ◌+◌, ◌-◌, ◌≤◌, ◌<◌}
 use native.Mathlib.Omega.{arith}
 use lib.Dec.{ltb}
-use lib.ListN.{length, get_or, take}
+use native.Mathlib.Numerals.{add-one}
+use lib.ListN.{length, get_or, take, drop, drop_of_length-le}
+use lib.Seq.{drop-cons}
 use borrow.Table.Steps.{cases}
 use borrow.Author.Tests.{eq-eqb, ne_eqb}
 use Rattle.text.specs.Bytes.{is_blank, is_indent, is_letter, is_digit}
@@ -16,7 +18,7 @@ use Rattle.text.specs.Runs.{run, after_run}
 use Rattle.text.specs.Lines.{Line, indent}
 use Rattle.text.specs.Parts.{part, line_in}
 use Rattle.text.proofs.Laws.Runs.{run_take}
-use Rattle.text.proofs.Laws.Parts.{part-nil, part-cons, part-take}
+use Rattle.text.proofs.Laws.Parts.{part-take}
 use Rattle.text.proofs.Laws.Lines.{indent-le}
 use Rattle.text.proofs.Laws.LinesIn.{line_in-part}
 use Rattle.rules.specs.Items.{width_of, width, Part, after_byte, after_counter, is_ended, ended, and_then, after_all, is_sign, after_sign, is_mark}
@@ -26,20 +28,21 @@ use Rattle.rules.proofs.Basics.{options, All, all_nil, all_cons}
 
 -- ---- the width of indentation, byte by byte
 
-module _ (s : List ℕ) (p e : ℕ) where
-  pub width_of-nil : e ≤ p → width_of (part s p e) ≡ 0
+module _ (x : List ℕ) (i : ℕ) where
+  pub width_of-nil : length x ≤ i → width_of (drop i x) ≡ 0
   unfolding width_of
-  width_of-nil h = rw (part-nil s p e h)
+  width_of-nil h = rw (drop_of_length-le x {i = i} h)
 
-  module _ (h : p < e) (k : e ≤ length s) where
-    pub width_of-tab : get_or s p 0 ≡ 9 → width_of (part s p e) ≡ 8 + width_of (part s (p + 1) e)
+  module _ (h : i < length x) where
+    pub width_of-tab : get_or x i 0 ≡ 9 → width_of (drop i x) ≡ 8 + width_of (drop (i + 1) x)
     unfolding width_of
-    width_of-tab t = rw (part-cons s p e h k) (rw (eq-eqb (get_or s p 0) 9 t, width_of))
+    width_of-tab t = rw (drop-cons x i 0 h, add-one) (rw (eq-eqb (get_or x i 0) 9 t, width_of))
 
-    pub width_of-other : (get_or s p 0 ≡ 9 → ⊥) → width_of (part s p e) ≡ 1 + width_of (part s (p + 1) e)
+    pub width_of-other : (get_or x i 0 ≡ 9 → ⊥) → width_of (drop i x) ≡ 1 + width_of (drop (i + 1) x)
     unfolding width_of
-    width_of-other t = rw (part-cons s p e h k) (rw (ne_eqb (get_or s p 0) 9 t, width_of))
+    width_of-other t = rw (drop-cons x i 0 h, add-one) (rw (ne_eqb (get_or x i 0) 9 t, width_of))
 
+module _ (s : List ℕ) (p e : ℕ) where
   -- that of a line of the text, whose body starts at byte b
   pub width-part : (b : ℕ) → b ≡ p + indent (line_in s p e) → width (line_in s p e) ≡ width_of (part s p b)
   unfolding width indent

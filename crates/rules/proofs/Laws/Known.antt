@@ -10,7 +10,9 @@ use native.Mathlib.Omega.{arith}
 use lib.Dec.{eqb}
 use lib.Bits.{bit_and, and_mask, and_comm, and_shr, bit_or, or_step, or_shr}
 use lib.Pow.{shl_exact, shl-shr}
-use lib.ListN.{length, get_or, drop}
+use native.Mathlib.Numerals.{add-one}
+use lib.ListN.{length, get_or, drop, drop_of_length-le}
+use lib.Seq.{drop-cons}
 use borrow.Table.Steps.{cases}
 use borrow.Author.Tests.{eqb-true, eqb-false, ne_eqb}
 use Rattle.text.specs.Bytes.{lower}
@@ -18,7 +20,7 @@ use Rattle.text.specs.Runs.{word, same, begins}
 use Rattle.text.specs.Parts.{part}
 use Rattle.text.specs.Spans.{line_span}
 use Rattle.text.specs.declared.line.LineSpan.{LineSpan}
-use Rattle.text.proofs.Laws.Parts.{part-nil, part-cons, part_length, part-drop}
+use Rattle.text.proofs.Laws.Parts.{part_length, part-drop}
 use Rattle.text.proofs.Laws.LinesIn.{lines_in-nil}
 use Rattle.rules.specs.Known.{NoLine, number_from, name_number, has_name, any_name, Names}
 use Rattle.rules.proofs.Basics.{and_yes}
@@ -28,14 +30,14 @@ use Rattle.rules.proofs.Laws.Closers.{lines_before-nil, lines_before-pass}
 
 -- ---- the number of a name
 
-module _ (s : List ℕ) (p e n : ℕ) where
-  pub number-end : e ≤ p → number_from n (part s p e) ≡ n
+module _ (x : List ℕ) (i n : ℕ) where
+  pub number-end : length x ≤ i → number_from n (drop i x) ≡ n
   unfolding number_from
-  number-end h = rw (part-nil s p e h)
+  number-end h = rw (drop_of_length-le x {i = i} h)
 
-  pub number_step : p < e → e ≤ length s → number_from n (part s p e) ≡ number_from ((n * 5 + lower (get_or s p 0)) % 63) (part s (p + 1) e)
+  pub number_step : i < length x → number_from n (drop i x) ≡ number_from ((n * 5 + lower (get_or x i 0)) % 63) (drop (i + 1) x)
   unfolding number_from
-  number_step h k = rw (part-cons s p e h k)
+  number_step h = rw (drop-cons x i 0 h, add-one)
 
 -- names that differ in case only have the same
 number_from-same : (n : ℕ) (x y : List ℕ) → same x y ≡ true → number_from n x ≡ number_from n y

@@ -10,6 +10,7 @@ use lib.ListN.{length, take, drop, get_or, length-drop}
 use lib.Seq.{drop-drop}
 use borrow.Table.Steps.{cases}
 use borrow.Author.Tests.{ltb-true, leb-true, lt-ltb, le-ltb, le-leb, lt-leb}
+use Rattle.std.specs.declared.option.Option.TheVariants.{None, Some}
 use Rattle.text.specs.Bytes.{is_indent, lower}
 use Rattle.text.specs.Runs.{run}
 use Rattle.text.specs.Lines.{Line, size, blank_line, indent, body_end, head_line, tail_lines, blanks}
@@ -24,7 +25,7 @@ use Rattle.rules.specs.Known.{Knows}
 use Rattle.rules.specs.Findings.{LineOf}
 use Rattle.rules.specs.Scans.{run_by, together_run, item_run, list_run, next_of}
 use Rattle.rules.specs.declared.lines.LineRun.{LineRun}
-use Rattle.rules.specs.declared.list.Next.TheVariants.{Line as NextLine, Nothing}
+use Rattle.rules.specs.declared.list.Next.{Next}
 use Rattle.rules.proofs.Basics.{and_yes}
 use Rattle.rules.proofs.Laws.Items.{width-part}
 use Rattle.rules.proofs.Laws.LineOf.{indent-run, line_of, line_of-end, line_of-order, line_of-lines}
@@ -112,48 +113,48 @@ module _ (s : List ℕ) (p e : ℕ) where
 
   -- as the code finds it
   module _ (q k : ℕ) (at_first : q ≡ first) (lines : k ≡ gap-lines) where
-    pub next-end : e ≤ q → Nothing ≡ next_of s p e
+    pub next-end : e ≤ q → None ≡ next_of s p e
     unfolding next_of
     next-end h = rw (le-ltb first e (rw at_first at h), next_of)
 
-    pub next-two : q < e → 1 < k → Nothing ≡ next_of s p e
+    pub next-two : q < e → 1 < k → None ≡ next_of s p e
     unfolding next_of
     next-two h i = rw (lt-ltb first e (rw at_first at h), lt-leb gap-lines 1 (rw lines at i), next_of)
 
     pub next-line : q < e → k ≤ 1 → (b v : ℕ) → b ≡ q + length (run is_indent (part s q e)) → v ≡ width_of (part s q b)
-        → NextLine q b v k ≡ next_of s p e
+        → Some (record { start = q; body = b; width = v; blanks = k }) ≡ next_of s p e
     unfolding next_of
     next-line h i b v j g =
         rw (g ∙ sym (width-part s q e b (indent-run s q e b j)), indent-run s q e b j, lines, at_first)
         (rw (lt-ltb first e (rw at_first at h), le-leb gap-lines 1 (rw lines at i), next_of))
 
-  pub next-is : (q b v k : ℕ) → NextLine q b v k ≡ next_of s p e → IsNext s p e q b v k
+  pub next-is : (n : Next) → Some n ≡ next_of s p e → IsNext s p e n.start n.body n.width n.blanks
   unfolding next_of
-  next-is q b v k h = cases (ltb first e && leb gap-lines 1)
+  next-is n h = cases (ltb first e && leb gap-lines 1)
       (λ i.
+      let l = line_in s first e in
       let eq = rw (i, next_of) at h in
-      let start : q ≡ first = cc in
-      let from-body : b ≡ first + indent (line_in s first e) = cc in
-      let same_width : v ≡ width (line_in s first e) = cc in
-      let gap : k ≡ gap-lines = cc in
+      let is : n ≡ record { start = first; body = first + indent l; width = width l; blanks = gap-lines } = cc in
+      let start = ap (λ (x : Next). x.start) is in
+      let gap = ap (λ (x : Next). x.blanks) is in
       let tests = and_yes (ltb first e) (leb gap-lines 1) i in
       record {
         start = start;
         some = rw start (ltb-true first e tests.0);
-        body = rw start from-body;
-        wide = rw start same_width;
+        body = rw start (ap (λ (x : Next). x.body) is);
+        wide = rw start (ap (λ (x : Next). x.width) is);
         gap = gap;
         few = rw gap (leb-true gap-lines 1 tests.1);
       })
-      (λ i. absurd (let eq = rw (i, next_of) at h in let z : ◌≡◌ {A = ℕ} 0 1 = cc in omega arith))
+      (λ i. let eq = rw (i, next_of) at h in cc)
 
-  pub next-none : Nothing ≡ next_of s p e → {F : List Line → ℕ} → Gapped F → F (lines_in s p e) ≡ 0
+  pub next-none : None ≡ next_of s p e → {F : List Line → ℕ} → Gapped F → F (lines_in s p e) ≡ 0
   unfolding next_of first_line
   next-none h {F} g =
       split 1 gap-lines
       (λ i. gapped-many g (lines_in s p e) i)
       (λ i. split first e
-      (λ j. absurd (let eq = rw (lt-ltb first e j, le-leb gap-lines 1 i, next_of) at h in let z : ◌≡◌ {A = ℕ} 0 1 = cc in omega arith))
+      (λ j. let eq = rw (lt-ltb first e j, le-leb gap-lines 1 i, next_of) at h in cc)
       (λ j. gapped-none g (lines_in s p e) (ap F (sym (lines_in-drop s p e gap-lines) ∙ lines_in-nil s first e j) ∙ g.nil)))
 
 module _ {s : List ℕ} {p e q b v k : ℕ} (next : IsNext s p e q b v k) where

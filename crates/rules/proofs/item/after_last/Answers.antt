@@ -2,13 +2,12 @@
 -- Assumes nothing.
 use mathlib.Core.List.{[], ◌∷◌}
 use Rattle.rules.specs.Items.{after_byte, ended}
-use Rattle.rules.specs.Bullets.{item_test}
 use Rattle.rules.proofs.Laws.Bullets.{leaves_none, leaves-then, leaves_last}
 use Rattle.rules.proofs.item.after_last.Goals as goal
 
-pub returns-in_default : goal.returns-in_default
-returns-in_default c = leaves_none _ _ _ (after_byte (item_test c.args.class)) (ended ∷ []) c.in_default.ensures
+pub returns-in_err-a : goal.returns-in_err-a
+returns-in_err-a g c t h = rw c.from_residual.ensures (leaves_none _ _ _ (after_byte t) (ended ∷ []) (c.in_err-a.ensures.leaves t h))
 
 pub returns : goal.returns
-returns c =
-    leaves-then _ _ _ (after_byte (item_test c.args.class)) (ended ∷ []) _ _ c.in-At.ensures (leaves_last _ _ _ ended _ c.if_ended.ensures)
+returns g c t h =
+    leaves-then _ _ _ (after_byte t) (ended ∷ []) _ _ (c.in_ok-a.ensures.leaves t h) (leaves_last _ _ _ ended _ c.if_ended.ensures)

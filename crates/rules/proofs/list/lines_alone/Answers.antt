@@ -10,76 +10,76 @@ use Rattle.rules.proofs.Laws.Scans.{item-gapped}
 use Rattle.rules.proofs.Laws.Stretches.{after-start, after-order, after_next, after-further}
 use Rattle.rules.proofs.list.lines_alone.Goals as goal
 
-pub loop-body-init : goal.loop-body-init
+pub loop-line-init : goal.loop-line-init
 unfolding item_run
-loop-body-init c = (after-start _ _ _, refl)
+loop-line-init c = (after-start _ _ _, refl)
 
 pub find_next-requires : goal.find_next-requires
 find_next-requires c =
     let pre = c.requires in
-    let order = after-order pre.0 pre.1 c.loop-body.invariant.0 in
+    let order = after-order pre.0 pre.1 c.loop-line.invariant.0 in
     (order.1, pre.1, pre.2)
 
 -- ---- the next line
 
-pub bounds-text-body : goal.bounds-text-body
-bounds-text-body c =
+pub bounds-text-line : goal.bounds-text-line
+bounds-text-line c =
     let pre = c.requires in
-    let order = after-order pre.0 pre.1 c.loop-body.invariant.0 in
-    let within = next-body (next-is _ _ _ _ _ _ _ c.in-Line.ensures) order.1 pre.1 in
+    let order = after-order pre.0 pre.1 c.loop-line.invariant.0 in
+    let within = next-body (next-is _ _ _ _ c.in-Some.ensures) order.1 pre.1 in
     omega arith
 
 pub line_end-at-requires : goal.line_end-at-requires
 line_end-at-requires c =
     let pre = c.requires in
-    let order = after-order pre.0 pre.1 c.loop-body.invariant.0 in
-    let within = next-body (next-is _ _ _ _ _ _ _ c.in-Line.ensures) order.1 pre.1 in
+    let order = after-order pre.0 pre.1 c.loop-line.invariant.0 in
+    let within = next-body (next-is _ _ _ _ c.in-Some.ensures) order.1 pre.1 in
     omega arith
 
 pub overflow_add-n : goal.overflow_add-n
 overflow_add-n c =
     let pre = c.requires in
-    let line = next-is _ _ _ _ _ _ _ c.in-Line.ensures in
+    let line = next-is _ _ _ _ c.in-Some.ensures in
     let end = c.line_end-at.ensures ∙ after-end _ _ _ _ line.body in
-    omega (arith, pre.2, after-further pre.0 pre.1 c.loop-body.invariant.0 line _ end)
+    omega (arith, pre.2, after-further pre.0 pre.1 c.loop-line.invariant.0 line _ end)
 
-pub overflow_add-n-in-loop-body : goal.overflow_add-n-in-loop-body
-overflow_add-n-in-loop-body c =
+pub overflow_add-n-in-Some : goal.overflow_add-n-in-Some
+overflow_add-n-in-Some c =
     let pre = c.requires in
-    let line = next-is _ _ _ _ _ _ _ c.in-Line.ensures in
+    let line = next-is _ _ _ _ c.in-Some.ensures in
     let end = c.line_end-at.ensures ∙ after-end _ _ _ _ line.body in
-    omega (arith, pre.2, after-further pre.0 pre.1 c.loop-body.invariant.0 line _ end)
+    omega (arith, pre.2, after-further pre.0 pre.1 c.loop-line.invariant.0 line _ end)
 
-pub loop-body-smaller : goal.loop-body-smaller
-loop-body-smaller c =
+pub loop-line-smaller : goal.loop-line-smaller
+loop-line-smaller c =
     let pre = c.requires in
-    let line = next-is _ _ _ _ _ _ _ c.in-Line.ensures in
+    let line = next-is _ _ _ _ c.in-Some.ensures in
     let end = c.line_end-at.ensures ∙ after-end _ _ _ _ line.body in
-    omega (arith, after-further pre.0 pre.1 c.loop-body.invariant.0 line _ end)
+    omega (arith, after-further pre.0 pre.1 c.loop-line.invariant.0 line _ end)
 
-pub loop-body-preserved : goal.loop-body-preserved
-loop-body-preserved c =
+pub loop-line-preserved : goal.loop-line-preserved
+loop-line-preserved c =
     let pre = c.requires in
-    let inv = c.loop-body.invariant in
+    let inv = c.loop-line.invariant in
     let order = after-order pre.0 pre.1 inv.0 in
-    let line = next-is _ _ _ _ _ _ _ c.in-Line.ensures in
+    let line = next-is _ _ _ _ c.in-Some.ensures in
     let end = c.line_end-at.ensures ∙ after-end _ _ _ _ line.body in
     let alone = line-alone _ _ _ _ line.some pre.1 line.body (next-nonblank line order.1 pre.1) in
     let run = alone (search rules) (search rules) (search rules) _ end in
-    (after_next pre.0 pre.1 inv.0 line _ end, item-pass line order.1 pre.1 _ c.if-column-width.false _ run _ ∙ inv.1)
+    (after_next pre.0 pre.1 inv.0 line _ end, item-pass line order.1 pre.1 _ c.if-line-width.false _ run _ ∙ inv.1)
 
 -- ---- no line goes on with it
 
 pub returns-in_default : goal.returns-in_default
 returns-in_default c =
-    let inv = c.loop-body.invariant in
+    let inv = c.loop-line.invariant in
     let none = next-none _ _ _ c.in_default.ensures (item-gapped _) in
-    record { end = inv.0.is; item = inv.1; whole = λ i. run_by-none _ _ _ _ _ none ∙ inv.1 }
+    run_by-none _ _ _ _ _ none ∙ inv.1
 
-pub returns-then-column-width : goal.returns-then-column-width
-returns-then-column-width c =
+pub returns-then-line-width : goal.returns-then-line-width
+returns-then-line-width c =
     let pre = c.requires in
-    let inv = c.loop-body.invariant in
+    let inv = c.loop-line.invariant in
     let order = after-order pre.0 pre.1 inv.0 in
-    let stop = item-stop (next-is _ _ _ _ _ _ _ c.in-Line.ensures) order.1 pre.1 _ _ c.if-column-width.true in
-    record { end = inv.0.is; item = inv.1; whole = λ i. stop ∙ inv.1 }
+    let stop = item-stop (next-is _ _ _ _ c.in-Some.ensures) order.1 pre.1 _ _ c.if-line-width.true in
+    stop ∙ inv.1

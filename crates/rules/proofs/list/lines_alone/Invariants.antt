@@ -6,9 +6,9 @@ use Rattle.rules.specs.Scans.{run_by, item_run}
 use Rattle.rules.proofs.Laws.Stretches.{After}
 use Rattle.rules.proofs.list.lines_alone.Given as goal
 
-abbrev pub invariant-loop-body : goal.invariant-loop-body
-invariant-loop-body l =
+abbrev pub invariant-loop-line : goal.invariant-loop-line
+invariant-loop-line l =
     After l.text l.from l.to l.at l.n × (run_by (item_lines l.width 0) l.text l.at l.to l.n ≡ item_run l.text l.from l.to l.width)
 
-abbrev pub decreases-loop-body : goal.decreases-loop-body
-decreases-loop-body l = l.to - l.at
+abbrev pub decreases-loop-line : goal.decreases-loop-line
+decreases-loop-line l = l.to - l.at

@@ -13,16 +13,16 @@ use Rattle.rules.proofs.Laws.ScanRuns.{item-stop, item-pass, item_count, item-to
 use Rattle.rules.proofs.Laws.Scans.{item-gapped}
 use Rattle.rules.proofs.list.lines_by_closers.Goals as goal
 
-pub loop-start-init : goal.loop-start-init
+pub loop-next-init : goal.loop-next-init
 unfolding item_run
-loop-start-init c = let pre = c.requires in (pre.order, pre.text, pre.limit, pre.known, refl)
+loop-next-init c = let pre = c.requires in (pre.order, pre.text, pre.limit, pre.known, refl)
 
 -- ---- the next line
 
 pub lines_together-further-requires : goal.lines_together-further-requires
 lines_together-further-requires c =
-    let inv = c.loop-start.invariant in
-    let line = next-is _ _ _ _ _ _ _ c.in-Line.ensures in
+    let inv = c.loop-next.invariant in
+    let line = next-is _ _ _ _ c.in-Some.ensures in
     record {
       some = line.some;
       text = inv.1;
@@ -43,44 +43,44 @@ passed n from text order left line deeper r run =
 
 pub overflow_add-n : goal.overflow_add-n
 overflow_add-n c =
-    let inv = c.loop-start.invariant in
-    let line = next-is _ _ _ _ _ _ _ c.in-Line.ensures in
-    omega (arith, inv.2, passed _ c.requires.order inv.1 inv.0 inv.4 line c.if-indent-width.false _ c.lines_together-further.ensures.run)
+    let inv = c.loop-next.invariant in
+    let line = next-is _ _ _ _ c.in-Some.ensures in
+    omega (arith, inv.2, passed _ c.requires.order inv.1 inv.0 inv.4 line c.if-next-width.false _ c.lines_together-further.ensures.run)
 
-pub overflow_add-n-in-loop-start : goal.overflow_add-n-in-loop-start
-overflow_add-n-in-loop-start c =
-    let inv = c.loop-start.invariant in
-    let line = next-is _ _ _ _ _ _ _ c.in-Line.ensures in
-    omega (arith, inv.2, passed _ c.requires.order inv.1 inv.0 inv.4 line c.if-indent-width.false _ c.lines_together-further.ensures.run)
+pub overflow_add-n-in-Some : goal.overflow_add-n-in-Some
+overflow_add-n-in-Some c =
+    let inv = c.loop-next.invariant in
+    let line = next-is _ _ _ _ c.in-Some.ensures in
+    omega (arith, inv.2, passed _ c.requires.order inv.1 inv.0 inv.4 line c.if-next-width.false _ c.lines_together-further.ensures.run)
 
-pub loop-start-smaller : goal.loop-start-smaller
-loop-start-smaller c =
-    let inv = c.loop-start.invariant in
-    let line = next-is _ _ _ _ _ _ _ c.in-Line.ensures in
-    omega (arith, passed _ c.requires.order inv.1 inv.0 inv.4 line c.if-indent-width.false _ c.lines_together-further.ensures.run)
+pub loop-next-smaller : goal.loop-next-smaller
+loop-next-smaller c =
+    let inv = c.loop-next.invariant in
+    let line = next-is _ _ _ _ c.in-Some.ensures in
+    omega (arith, passed _ c.requires.order inv.1 inv.0 inv.4 line c.if-next-width.false _ c.lines_together-further.ensures.run)
 
-pub loop-start-preserved : goal.loop-start-preserved
-loop-start-preserved c =
-    let inv = c.loop-start.invariant in
-    let line = next-is _ _ _ _ _ _ _ c.in-Line.ensures in
+pub loop-next-preserved : goal.loop-next-preserved
+loop-next-preserved c =
+    let inv = c.loop-next.invariant in
+    let line = next-is _ _ _ _ c.in-Some.ensures in
     let further = c.lines_together-further.ensures in (
-      (passed _ c.requires.order inv.1 inv.0 inv.4 line c.if-indent-width.false _ further.run).2,
+      (passed _ c.requires.order inv.1 inv.0 inv.4 line c.if-next-width.false _ further.run).2,
       inv.1,
       inv.2,
       further.known,
-      item-pass line inv.0 inv.1 _ c.if-indent-width.false _ further.run _ ∙ inv.4,
+      item-pass line inv.0 inv.1 _ c.if-next-width.false _ further.run _ ∙ inv.4,
     )
 
 -- ---- no line goes on with it
 
 pub returns-in_default : goal.returns-in_default
 returns-in_default c =
-    let inv = c.loop-start.invariant in
+    let inv = c.loop-next.invariant in
     let none = next-none _ _ _ c.in_default.ensures (item-gapped _) in
     record { run = run_by-none _ _ _ _ _ none ∙ inv.4; known = inv.3 }
 
-pub returns-then-indent-width : goal.returns-then-indent-width
-returns-then-indent-width c =
-    let inv = c.loop-start.invariant in
-    let line = next-is _ _ _ _ _ _ _ c.in-Line.ensures in
-    record { run = item-stop line inv.0 inv.1 _ _ c.if-indent-width.true ∙ inv.4; known = inv.3 }
+pub returns-then-next-width : goal.returns-then-next-width
+returns-then-next-width c =
+    let inv = c.loop-next.invariant in
+    let line = next-is _ _ _ _ c.in-Some.ensures in
+    record { run = item-stop line inv.0 inv.1 _ _ c.if-next-width.true ∙ inv.4; known = inv.3 }

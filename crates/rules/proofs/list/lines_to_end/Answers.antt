@@ -13,6 +13,7 @@ use Rattle.text.specs.Parts.{part, lines_in, first_line}
 use Rattle.text.proofs.Laws.Runs.{run-part-to}
 use Rattle.rules.specs.Items.{width_of}
 use Rattle.rules.proofs.Laws.LineOf.{after-end}
+use Rattle.rules.proofs.Laws.Paragraphs.{line_run}
 use Rattle.rules.proofs.Laws.ScanRuns.{IsNext, next-is, next-line}
 use Rattle.rules.proofs.Laws.Stretches.{after-start, after-order, after_next, after-further, after-item, deep-line, deep-all}
 use Rattle.rules.proofs.list.lines_to_end.Goals as goal
@@ -41,7 +42,7 @@ line_end-at-requires c =
 -- as the code finds it
 next : (s : List ℕ) (p e : ℕ) {q k b v : ℕ} → (q ≡ first_line s p e) × (k ≡ blanks (lines_in s p e)) → q < e → k ≤ 1
     → b ≡ q + length (run is_indent (part s q e)) → v ≡ width_of (part s q b) → IsNext s p e q b v k
-next s p e first some few body wide = next-is _ _ _ _ _ _ _ (next-line _ _ _ _ _ first.0 first.1 some few _ _ body wide)
+next s p e first some few body wide = next-is _ _ _ _ (next-line _ _ _ _ _ first.0 first.1 some few _ _ body wide)
 
 pub overflow_add-n-in-loop-first : goal.overflow_add-n-in-loop-first
 overflow_add-n-in-loop-first c =
@@ -68,10 +69,11 @@ loop-first-preserved c =
 
 -- ---- nothing is left
 
-pub returns : goal.returns
-returns c i =
+pub returns-then-to-start : goal.returns-then-to-start
+returns-then-to-start c run is =
     let pre = c.requires in
     let inv = c.loop-first.invariant in
     let order = after-order pre.0 pre.1 inv.0 in
     let all = deep-all _ _ _ _ _ _ order.1 pre.1 inv.1 (rw c.first_line-first.ensures.0 at c.if-to-start.true) in
-    after-item pre.0 pre.1 inv.0 _ all
+    let same : run ≡ line_run c.loop-first.at c.loop-first.n = cc in
+    same ∙ after-item pre.0 pre.1 inv.0 _ all

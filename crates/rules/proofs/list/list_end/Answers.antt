@@ -24,8 +24,8 @@ use Rattle.rules.proofs.Laws.ScanRuns.{item-order, list-first, list-total, list-
 use Rattle.rules.proofs.list.list_end.Goals as goal
 use Rattle.rules.proofs.list.list_end.Goals.{After-line_end-at}
 
-pub loop-start-init : goal.loop-start-init
-loop-start-init c =
+pub loop-next-init : goal.loop-next-init
+loop-next-init c =
     let pre = c.requires in
     let o = line_of-order _ _ _ pre.first.line in
     (o.4, o.5, pre.limit, knows-next _ _ _ _ _ pre.first.line pre.first.known, refl)
@@ -57,12 +57,12 @@ module _ (s : List ℕ) (l : LineSpan) (e w : ℕ) (first : LineOf s l e) (wide 
 pub overflow_add-n : goal.overflow_add-n
 overflow_add-n c =
     let pre = c.requires in
-    let inv = c.loop-start.invariant in
+    let inv = c.loop-next.invariant in
     omega (arith, inv.2, total _ _ _ _ pre.first.line pre.wide _ _ _ c.item_end-further.ensures.run inv.4)
 
 pub find_next-requires : goal.find_next-requires
 find_next-requires c =
-    let inv = c.loop-start.invariant in
+    let inv = c.loop-next.invariant in
     let order = item-order _ _ _ _ _ c.item_end-further.ensures.run inv.0 inv.1 in
     (order.1, inv.1, inv.2)
 
@@ -72,18 +72,18 @@ returns-in_default c =
     let further = c.item_end-further.ensures in
     let none = next-none _ _ _ c.in_default.ensures (list-gapped _) in
     record {
-      run = run_by-none _ _ _ _ _ none ∙ rest _ _ _ _ pre.first.line pre.wide _ _ _ further.run c.loop-start.invariant.4;
+      run = run_by-none _ _ _ _ _ none ∙ rest _ _ _ _ pre.first.line pre.wide _ _ _ further.run c.loop-next.invariant.4;
       known = further.known;
     }
 
-pub returns-then-indent-width : goal.returns-then-indent-width
-returns-then-indent-width c =
+pub returns-then-next-width : goal.returns-then-next-width
+returns-then-next-width c =
     let pre = c.requires in
-    let inv = c.loop-start.invariant in
+    let inv = c.loop-next.invariant in
     let further = c.item_end-further.ensures in
     let order = item-order _ _ _ _ _ further.run inv.0 inv.1 in
-    let line = next-is _ _ _ _ _ _ _ c.in-Line.ensures in
-    let other = ne_eqb _ _ (rw line.wide at c.if-indent-width.true) in
+    let line = next-is _ _ _ _ c.in-Some.ensures in
+    let other = ne_eqb _ _ (rw line.wide at c.if-next-width.true) in
     record {
       run = stop _ _ _ _ pre.first.line pre.wide _ _ _ further.run inv.4 inv.1 order.1 _ _ _ _ line (rw (other, and-false));
       known = further.known;
@@ -91,16 +91,16 @@ returns-then-indent-width c =
 
 pub is_item-requires : goal.is_item-requires
 is_item-requires c =
-    let line = next-is _ _ _ _ _ _ _ c.in-Line.ensures in
-    (let h = line.some in omega arith, c.loop-start.invariant.1, line.body)
+    let line = next-is _ _ _ _ c.in-Some.ensures in
+    (let h = line.some in omega arith, c.loop-next.invariant.1, line.body)
 
 pub returns-then-not-is_item : goal.returns-then-not-is_item
 returns-then-not-is_item c =
     let pre = c.requires in
-    let inv = c.loop-start.invariant in
+    let inv = c.loop-next.invariant in
     let further = c.item_end-further.ensures in
     let order = item-order _ _ _ _ _ further.run inv.0 inv.1 in
-    let line = next-is _ _ _ _ _ _ _ c.in-Line.ensures in
+    let line = next-is _ _ _ _ c.in-Some.ensures in
     let plain = sym c.is_item.ensures ∙ c.if-not-is_item.true in
     record {
       run = stop _ _ _ _ pre.first.line pre.wide _ _ _ further.run inv.4 inv.1 order.1 _ _ _ _ line (rw plain);
@@ -111,51 +111,52 @@ returns-then-not-is_item c =
 
 pub line_end-at-requires : goal.line_end-at-requires
 line_end-at-requires c =
-    let line = next-is _ _ _ _ _ _ _ c.in-Line.ensures in
-    let text = c.loop-start.invariant.1 in
+    let line = next-is _ _ _ _ c.in-Some.ensures in
+    let text = c.loop-next.invariant.1 in
     (after-to _ _ _ _ line.body (let h = line.some in omega arith) text, text)
 
 -- its end
-end : (c : After-line_end-at) → c.line_end-at.result ≡ c.in-Line.start + length (line_in c.args.text.now c.in-Line.start c.args.scope.end)
-end c = c.line_end-at.ensures ∙ after-end _ _ _ _ (next-is _ _ _ _ _ _ _ c.in-Line.ensures).body
+end : (c : After-line_end-at) → c.line_end-at.result ≡ c.in-Some.next.start + length (line_in c.args.text.now c.in-Some.next.start c.args.scope.end)
+end c = c.line_end-at.ensures ∙ after-end _ _ _ _ (next-is _ _ _ _ c.in-Some.ensures).body
 
-same : (c : After-line_end-at) → let line = line_in c.args.text.now c.in-Line.start c.args.scope.end in
+same : (c : After-line_end-at) → let line = line_in c.args.text.now c.in-Some.next.start c.args.scope.end in
     (is_item line && eqb (width line) c.args.width) ≡ true
 same c =
-    let line = next-is _ _ _ _ _ _ _ c.in-Line.ensures in
+    let line = next-is _ _ _ _ c.in-Some.ensures in
     let item = sym c.is_item.ensures ∙ c.if-not-is_item.false in
-    rw item (eq-eqb _ _ (sym line.wide ∙ c.if-indent-width.false))
+    rw item (eq-eqb _ _ (sym line.wide ∙ c.if-next-width.false))
 
 past : (c : After-line_end-at) →
     let run = c.item_end-further.result.run in
     let to = c.args.scope.end in
-    (c.loop-start.n + run.lines + (c.in-Line.blanks + 1) ≤ to) × (c.loop-start.at < c.line_end-at.result) × (c.line_end-at.result ≤ to)
+    (c.loop-next.n + run.lines + (c.in-Some.next.blanks + 1) ≤ to) × (c.loop-next.at < c.line_end-at.result) × (c.line_end-at.result ≤ to)
 past c =
     let pre = c.requires in
-    let inv = c.loop-start.invariant in
+    let inv = c.loop-next.invariant in
     let run = c.item_end-further.ensures.run in
     let order = item-order _ _ _ _ _ run inv.0 inv.1 in
-    let line = next-is _ _ _ _ _ _ _ c.in-Line.ensures in
+    let line = next-is _ _ _ _ c.in-Some.ensures in
     omega (arith, passed _ _ _ _ pre.first.line pre.wide _ _ _ run inv.4 inv.1 order.1 _ _ _ _ line (same c) _ (end c))
 
-pub overflow_add-n-in-loop-start : goal.overflow_add-n-in-loop-start
-overflow_add-n-in-loop-start c = omega (arith, c.loop-start.invariant.2, past c)
+pub overflow_add-n-in-loop-next : goal.overflow_add-n-in-loop-next
+overflow_add-n-in-loop-next c = omega (arith, c.loop-next.invariant.2, past (goal.at.overflow_add-n-in-loop-next c).After-line_end-at)
 
-pub overflow_add-n-in-loop-start-2 : goal.overflow_add-n-in-loop-start-2
-overflow_add-n-in-loop-start-2 c = omega (arith, c.loop-start.invariant.2, past c)
+pub overflow_add-n-in-loop-next-2 : goal.overflow_add-n-in-loop-next-2
+overflow_add-n-in-loop-next-2 c = omega (arith, c.loop-next.invariant.2, past (goal.at.overflow_add-n-in-loop-next-2 c).After-line_end-at)
 
-pub loop-start-smaller : goal.loop-start-smaller
-loop-start-smaller c = omega (arith, past c)
+pub loop-next-smaller : goal.loop-next-smaller
+loop-next-smaller c = omega (arith, past (goal.at.loop-next-smaller c).After-line_end-at)
 
-pub loop-start-preserved : goal.loop-start-preserved
-loop-start-preserved c =
-    let inv = c.loop-start.invariant in
+pub loop-next-preserved : goal.loop-next-preserved
+loop-next-preserved c =
+    let here = (goal.at.loop-next-preserved c).After-line_end-at in
+    let inv = c.loop-next.invariant in
     let further = c.item_end-further.ensures in
     let order = item-order _ _ _ _ _ further.run inv.0 inv.1 in
-    let line = next-is _ _ _ _ _ _ _ c.in-Line.ensures in (
-      (past c).2,
+    let line = next-is _ _ _ _ c.in-Some.ensures in (
+      (past here).2,
       inv.1,
       inv.2,
-      rw (end c) (knows_line _ _ _ _ _ (next-knows line _ _ further.known)),
-      list-pass line order.1 inv.1 _ (same c) _ _ (end c) ∙ list-item _ _ _ _ _ further.run _ ∙ inv.4,
+      rw (end here) (knows_line _ _ _ _ _ (next-knows line _ _ further.known)),
+      list-pass line order.1 inv.1 _ (same here) _ _ (end here) ∙ list-item _ _ _ _ _ further.run _ ∙ inv.4,
     )

@@ -7,10 +7,10 @@ use Rattle.rules.specs.Scans.{run_by}
 use Rattle.rules.proofs.Laws.Scans.{list_rest}
 use Rattle.rules.proofs.list.list_end.Given as goal
 
-abbrev pub invariant-loop-start : goal.invariant-loop-start
-invariant-loop-start l =
+abbrev pub invariant-loop-next : goal.invariant-loop-next
+invariant-loop-next l =
     (l.at ≤ l.to) × (l.to ≤ length l.text) × (l.to ≤ text_limit) × Knows l.text l.at l.to l.ends l.names
     × (run_by (list_rest l.width) l.text l.at l.to l.n ≡ run_by (list_rest l.width) l.text l.initial.at l.to l.initial.n)
 
-abbrev pub decreases-loop-start : goal.decreases-loop-start
-decreases-loop-start l = l.to - l.at
+abbrev pub decreases-loop-next : goal.decreases-loop-next
+decreases-loop-next l = l.to - l.at

@@ -1,9 +1,9 @@
 -- `rules::list_element::list_detail` meets its contract: 1 for a number or letter bullet alone.
 -- Assumes nothing.
-use Rattle.std.proofs.Common.{◌≡◌, ℕ, refl, sym, ap, ◌∙◌, arith}
-use Rattle.rules.specs.Bullets.{bullet_detail}
+use Rattle.std.proofs.Common.{◌≡◌, Bool, false, Option, Some, None, arith, of_calls}
+use Rattle.std.specs.Prelude.{MatchOption}
+use Rattle.rules.specs.Bullets.{is_numbered}
 use Rattle.rules.specs.declared.item.Bullet.{Bullet}
-use Rattle.rules.specs.declared.item.Bullet.TheVariants.{Sign, Number, Nothing}
 use Rattle.rules.proofs.Laws.LineOf.{line_of-order, line_of-from}
 use Rattle.rules.proofs.Laws.Bullets.{list_detail-bullet}
 use Rattle.rules.proofs.list_element.list_detail.Goals as goal
@@ -14,15 +14,18 @@ find_bullet-requires c =
     let o = line_of-order _ _ _ line in
     (omega arith, o.5, line_of-from _ _ _ line)
 
-pub returns-in-Number : goal.returns-in-Number
-unfolding bullet_detail
-returns-in-Number c = ap bullet_detail c.in-Number.ensures ∙ sym (list_detail-bullet _ _)
+-- what the closure answers of a bullet
+asked : (o : Option Bullet) (r : Bool) {Q : Bullet → Type 0} → MatchOption o (r ≡ false) Q → ((b : Bullet) → Q b → r ≡ b.numbered) → r ≡ is_numbered o
+unfolding is_numbered
+asked None r h q = h
+asked (Some b) r h q = q b h
 
-other : (b : Bullet) → ((q : ℕ) → b ≡ Number q → ⊥) → 2 ≡ bullet_detail b
-unfolding bullet_detail
-other (Sign q) h = refl
-other (Number q) h = absurd (h q refl)
-other Nothing h = refl
+pub returns-then-is_some_and : goal.returns-then-is_some_and
+returns-then-is_some_and c =
+    let n = asked c.find_bullet.result c.is_some_and.result c.is_some_and.ensures (λ b q. search of_calls) in
+    rw (list_detail-bullet c.args.line.start, ← c.find_bullet.ensures, ← n, c.if-is_some_and.true)
 
-pub returns-in_default : goal.returns-in_default
-returns-in_default c = other _ c.in_default.not-Number ∙ ap bullet_detail c.find_bullet.ensures ∙ sym (list_detail-bullet _ _)
+pub returns-else-is_some_and : goal.returns-else-is_some_and
+returns-else-is_some_and c =
+    let n = asked c.find_bullet.result c.is_some_and.result c.is_some_and.ensures (λ b q. search of_calls) in
+    rw (list_detail-bullet c.args.line.start, ← c.find_bullet.ensures, ← n, c.if-is_some_and.false)
