@@ -27,6 +27,7 @@ pub fn indent_width(text: &[u8], at: usize, body: usize) -> usize
     width
 }
 
+#[tactic(auto, using(std::proofs::lemmas::Bool::Decides::nat_tests), unfolding(text::specs::Bytes::is_letter))]
 fn is_letter(b: u8) -> bool
     ensures { result ≡ is_letter b }
 {
