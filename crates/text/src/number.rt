@@ -1,4 +1,4 @@
-// The numbers of an answer, as specs/Number has them.
+// The numbers of an answer, as specs/Number has them: the C interface gives them back, so they are no enum.
 pub const DONE: u32 = 0;
 
 pub const TOO_LONG: u32 = 1;
