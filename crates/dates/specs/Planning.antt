@@ -1,5 +1,7 @@
 -- A planning line is dates all through  [02 order 1].
 use Rattle.std.specs.Prelude.{Bool, true, false, List, ℕ, zero, suc, length, drop}
+use Rattle.std.specs.declared.option.Option as Options
+use Rattle.std.specs.declared.option.Option.TheVariants.{None}
 use Rattle.std.proofs.Math.Option.{Option, none, some}
 use Rattle.text.specs.Runs.{word, is_empty, begins}
 use Rattle.dates.specs.Reads.{Read, pick, ◌then◌, gap}
@@ -8,7 +10,6 @@ use Rattle.dates.specs.declared.planning.Keyword.{Keyword}
 use Rattle.dates.specs.declared.planning.Keyword.TheVariants.{Closed, Deadline, Scheduled}
 use Rattle.dates.specs.declared.planning.Planning.{Planning}
 use Rattle.dates.specs.declared.stamp.Timestamp.{Timestamp}
-use Rattle.dates.specs.declared.stamp.Timestamp.TheVariants.{Nothing}
 
 unfoldable pub keyword : List ℕ → Read Keyword
 keyword x =
@@ -18,11 +19,11 @@ keyword x =
     none))
 
 -- `KEYWORD:`, one or more blank bytes, a timestamp of any kind
-unfoldable pub planning_part : List ℕ → Read (Keyword × Timestamp)
+unfoldable pub planning_part : List ℕ → Read (Keyword × Options.Option Timestamp)
 planning_part x = keyword x then λ k a. gap a then λ u b. stamp b then λ t c. some ((k, t), c)
 
 -- a part's stamp becomes its keyword's, so the last one counts where a keyword repeats
-abbrev pub put : Keyword → Timestamp → Planning → Planning
+abbrev pub put : Keyword → Options.Option Timestamp → Planning → Planning
 put Closed t p = record { closed = t; deadline = p.deadline; scheduled = p.scheduled }
 put Deadline t p = record { closed = p.closed; deadline = t; scheduled = p.scheduled }
 put Scheduled t p = record { closed = p.closed; deadline = p.deadline; scheduled = t }
@@ -32,7 +33,7 @@ abbrev pub parts_from : Planning → (List ℕ → Option Planning) → List ℕ
 parts_from p f x none = pick (is_empty x) (some p) none
 parts_from p f x (some r) = f r.1
 
-abbrev pub part_from : (Planning → List ℕ → Option Planning) → Planning → Read (Keyword × Timestamp) → Option Planning
+abbrev pub part_from : (Planning → List ℕ → Option Planning) → Planning → Read (Keyword × Options.Option Timestamp) → Option Planning
 part_from f p none = none
 part_from f p (some r) = parts_from (put r.0.0 r.0.1 p) (f (put r.0.0 r.0.1 p)) r.1 (gap r.1)
 
@@ -42,7 +43,7 @@ planning_parts zero p x = none
 planning_parts (suc n) p x = part_from (planning_parts n) p (planning_part x)
 
 abbrev pub no_stamps : Planning
-no_stamps = record { closed = Nothing; deadline = Nothing; scheduled = Nothing }
+no_stamps = record { closed = None; deadline = None; scheduled = None }
 
 -- a body has no more parts than bytes
 unfoldable pub planning_in : List ℕ → Option Planning

@@ -1,8 +1,10 @@
 -- Timestamps  [02 order 1], part by part as source 001 writes the pattern: each part says what it reads and what follows it, or nothing where it
 -- does not stand there. Only the shape is judged. One or more blank bytes stand between the parts, none next to a bracket.
+-- `some` and `none` say whether a part is read, and `Some` and `None`, which are the code's, what may be missing in a timestamp.
 use Rattle.std.specs.Prelude.{Bool, true, false, not, ◌&&◌, ◌||◌, List, [], ◌∷◌, ℕ, ◌+◌, leb, eqb, length, take, drop}
 use Rattle.std.specs.Option.{is_some}
 use Rattle.std.specs.declared.option.Option as Options
+use Rattle.std.specs.declared.option.Option.TheVariants.{None, Some}
 use Rattle.std.proofs.Math.Option.{none, some}
 use Rattle.text.specs.Bytes.{is_digit, is_day_name_byte, is_hyphen, lower}
 use Rattle.text.specs.Runs.{word, is_empty, run, after_run, begins}
@@ -20,7 +22,7 @@ use Rattle.dates.specs.declared.stamp.Half.{Half}
 use Rattle.dates.specs.declared.stamp.Bracket.{Bracket}
 use Rattle.dates.specs.declared.stamp.Bracket.TheVariants.{Active, Inactive}
 use Rattle.dates.specs.declared.stamp.Timestamp.{Timestamp}
-use Rattle.dates.specs.declared.stamp.Timestamp.TheVariants.{Nothing, Single, Times, Dates}
+use Rattle.dates.specs.declared.stamp.Timestamp.TheVariants.{Single, Times, Dates}
 
 -- ---- date and time
 
@@ -70,11 +72,11 @@ abbrev pub Clock : Type 0
 Clock = Options.Option Time
 
 abbrev pub range_from : Time → List ℕ → Read Time → (Clock × Clock) × List ℕ
-range_from t x none = ((Options.TheVariants.Some t, Options.TheVariants.None), x)
-range_from t x (some r) = ((Options.TheVariants.Some t, Options.TheVariants.Some r.0), r.1)
+range_from t x none = ((Some t, None), x)
+range_from t x (some r) = ((Some t, Some r.0), r.1)
 
 abbrev pub times_from : List ℕ → Read Time → (Clock × Clock) × List ℕ
-times_from x none = ((Options.TheVariants.None, Options.TheVariants.None), x)
+times_from x none = ((None, None), x)
 times_from x (some r) = range_from r.0 r.1 (second_time r.1)
 
 unfoldable pub times : List ℕ → (Clock × Clock) × List ℕ
@@ -110,8 +112,8 @@ abbrev pub repeat_of : Mark → Interval → Options.Option Interval → Repeat
 repeat_of m i l = record { mark = m; every = i; limit = l }
 
 abbrev pub limit_from : Mark → Interval → List ℕ → Read (Unit {0}) → Read Repeat
-limit_from m i x none = some (repeat_of m i Options.TheVariants.None, x)
-limit_from m i x (some r) = interval r.1 then λ l y. some (repeat_of m i (Options.TheVariants.Some l), y)
+limit_from m i x none = some (repeat_of m i None, x)
+limit_from m i x (some r) = interval r.1 then λ l y. some (repeat_of m i (Some l), y)
 
 unfoldable pub repeat : List ℕ → Read Repeat
 repeat x = gap x then λ u a. mark a then λ m b. interval b then λ i c. limit_from m i c (expect (word "/") c)
@@ -127,29 +129,29 @@ delay x =
     pick (leb 1 n && leb n 2) (interval (after_run is_hyphen a) then λ i b. some (delay_of (eqb n 2) i, b)) none
 
 -- optional repeater, delay, or both in either order, each after blank bytes
-abbrev pub with_delay : Repeat → List ℕ → Read Delay → Repeater × List ℕ
-with_delay r x none = (Repeaters.Repeats r, x)
-with_delay r x (some d) = (Repeaters.RepeatsDelays r d.0, d.1)
+abbrev pub with_delay : Repeat → List ℕ → Read Delay → Options.Option Repeater × List ℕ
+with_delay r x none = (Some (Repeaters.Repeats r), x)
+with_delay r x (some d) = (Some (Repeaters.RepeatsDelays r d.0), d.1)
 
-abbrev pub with_repeat : Delay → List ℕ → Read Repeat → Repeater × List ℕ
-with_repeat d x none = (Repeaters.Delays d, x)
-with_repeat d x (some r) = (Repeaters.DelaysRepeats d r.0, r.1)
+abbrev pub with_repeat : Delay → List ℕ → Read Repeat → Options.Option Repeater × List ℕ
+with_repeat d x none = (Some (Repeaters.Delays d), x)
+with_repeat d x (some r) = (Some (Repeaters.DelaysRepeats d r.0), r.1)
 
-abbrev pub delay_first : List ℕ → Read Delay → Repeater × List ℕ
-delay_first x none = (Repeaters.Nothing, x)
+abbrev pub delay_first : List ℕ → Read Delay → Options.Option Repeater × List ℕ
+delay_first x none = (None, x)
 delay_first x (some d) = with_repeat d.0 d.1 (repeat d.1)
 
-abbrev pub repeat_first : List ℕ → Read Repeat → Repeater × List ℕ
+abbrev pub repeat_first : List ℕ → Read Repeat → Options.Option Repeater × List ℕ
 repeat_first x none = delay_first x (delay x)
 repeat_first x (some r) = with_delay r.0 r.1 (delay r.1)
 
-unfoldable pub repeater : List ℕ → Repeater × List ℕ
+unfoldable pub repeater : List ℕ → Options.Option Repeater × List ℕ
 repeater x = repeat_first x (repeat x)
 
 -- ---- a timestamp
 
 -- what stands after an opening bracket, up to and with the closing one, c
-abbrev pub half_of : Date → Clock × Clock → Repeater → Half
+abbrev pub half_of : Date → Clock × Clock → Options.Option Repeater → Half
 half_of d t r = record { moment = record { date = d; clock = t.0 }; until = t.1; repeater = r }
 
 unfoldable pub half : List ℕ → List ℕ → Read Half
@@ -161,8 +163,8 @@ half c x =
 
 -- one date, with a time range or without
 abbrev pub alone_of : Bracket → Half → Clock → Timestamp
-alone_of b h Options.TheVariants.None = Single b h.moment h.repeater
-alone_of b h (Options.TheVariants.Some t) = Times b h.moment t h.repeater
+alone_of b h None = Single b h.moment h.repeater
+alone_of b h (Some t) = Times b h.moment t h.repeater
 
 abbrev pub alone : Bracket → Half → Timestamp
 alone b h = alone_of b h h.until
@@ -180,32 +182,30 @@ second_half o c h x = unless_range h (second o c x)
 abbrev pub both : Bracket → Half → Half → Timestamp
 both b h g = Dates b h.moment h.repeater g.moment g.repeater
 
-abbrev pub dates_from : Bracket → Half → List ℕ → Read Half → Timestamp × List ℕ
-dates_from b h x none = (alone b h, x)
-dates_from b h x (some g) = (both b h g.0, g.1)
+abbrev pub dates_from : Bracket → Half → List ℕ → Read Half → Options.Option Timestamp × List ℕ
+dates_from b h x none = (Some (alone b h), x)
+dates_from b h x (some g) = (Some (both b h g.0), g.1)
 
-abbrev pub stamp_from : Bracket → List ℕ → List ℕ → List ℕ → Read Half → Timestamp × List ℕ
-stamp_from b o c x none = (Nothing, x)
+abbrev pub stamp_from : Bracket → List ℕ → List ℕ → List ℕ → Read Half → Options.Option Timestamp × List ℕ
+stamp_from b o c x none = (None, x)
 stamp_from b o c x (some h) = dates_from b h.0 h.1 (second_half o c h.0 h.1)
 
-unfoldable pub bracketed : Bracket → List ℕ → List ℕ → List ℕ → Timestamp × List ℕ
+unfoldable pub bracketed : Bracket → List ℕ → List ℕ → List ℕ → Options.Option Timestamp × List ℕ
 bracketed b o c x = stamp_from b o c x (half c (drop 1 x))
 
 -- `<` and `>` when active, `[` and `]` when not; else none
-unfoldable pub timestamp : List ℕ → Timestamp × List ℕ
+unfoldable pub timestamp : List ℕ → Options.Option Timestamp × List ℕ
 timestamp x =
     pick (begins x (word "<")) (bracketed Active (word "--<") (word ">") x)
     (pick (begins x (word "[")) (bracketed Inactive (word "--[") (word "]") x)
-    (Nothing, x))
+    (None, x))
 
 -- a timestamp, not none
-abbrev pub is_stamp : Timestamp → Bool
-is_stamp Nothing = false
-is_stamp (Single b m r) = true
-is_stamp (Times b m t r) = true
-is_stamp (Dates b m r n q) = true
+abbrev pub is_stamp : Options.Option Timestamp → Bool
+is_stamp None = false
+is_stamp (Some t) = true
 
-unfoldable pub stamp : List ℕ → Read Timestamp
+unfoldable pub stamp : List ℕ → Read (Options.Option Timestamp)
 stamp x = let t = timestamp x in pick (is_stamp t.0) (some t) none
 
 -- opens the definitions of this file and of those it stands on, for computed examples

@@ -21,9 +21,9 @@ pub enum Keyword {
 // The stamps of a planning line's keywords, each the last one where its keyword repeats.
 #[derive(Clone, Copy)]
 pub struct Planning {
-    pub closed: Timestamp,
-    pub deadline: Timestamp,
-    pub scheduled: Timestamp,
+    pub closed: Option<Timestamp>,
+    pub deadline: Option<Timestamp>,
+    pub scheduled: Option<Timestamp>,
 }
 
 // The bytes at which those stamps start; the line's end where there is none.
@@ -125,7 +125,7 @@ pub fn is_planning(text: &[u8], from: usize, to: usize) -> bool
 }
 
 // The timestamp at a byte.
-fn stamp_at(text: &[u8], at: usize, to: usize) -> Timestamp
+fn stamp_at(text: &[u8], at: usize, to: usize) -> Option<Timestamp>
     requires { (at ≤ to) × (to ≤ length text.now) }
     ensures { result ≡ stamp_in text.now at to }
 {
@@ -139,9 +139,9 @@ pub fn read_planning(text: &[u8], from: usize, to: usize) -> Planning
 {
     let Some(places) = read_parts(text, from, to) else {
         return Planning {
-            closed: Timestamp::Nothing,
-            deadline: Timestamp::Nothing,
-            scheduled: Timestamp::Nothing,
+            closed: None,
+            deadline: None,
+            scheduled: None,
         };
     };
     Planning {

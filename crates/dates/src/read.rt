@@ -13,7 +13,7 @@ use text::word::begins_with;
 // A timestamp, or none, and the byte after it.
 #[derive(Clone, Copy)]
 pub struct StampTo {
-    pub timestamp: Timestamp,
+    pub timestamp: Option<Timestamp>,
     pub end: usize,
 }
 
@@ -73,19 +73,19 @@ fn read_bracketed(
 {
     match skip_bracketed(text, at, to, opening, closing) {
         Some(Span::One(end)) => StampTo {
-            timestamp: alone(bracket, half_at(text, at + 1, to)),
+            timestamp: Some(alone(bracket, half_at(text, at + 1, to))),
             end,
         },
         Some(Span::Two(second, end)) => StampTo {
-            timestamp: both(
+            timestamp: Some(both(
                 bracket,
                 half_at(text, at + 1, to),
                 half_at(text, second, to),
-            ),
+            )),
             end,
         },
         None => StampTo {
-            timestamp: Timestamp::Nothing,
+            timestamp: None,
             end: at,
         },
     }
@@ -103,7 +103,7 @@ pub fn read_timestamp(text: &[u8], at: usize, to: usize) -> StampTo
         return read_bracketed(text, at, to, Bracket::Inactive, b"--[", b"]");
     }
     StampTo {
-        timestamp: Timestamp::Nothing,
+        timestamp: None,
         end: at,
     }
 }

@@ -14,7 +14,7 @@ const DIGITS: usize = 9;
 // A repeater, a delay, both or neither, and the byte after them.
 #[derive(Clone, Copy)]
 pub struct RepeaterTo {
-    pub repeater: Repeater,
+    pub repeater: Option<Repeater>,
     pub end: usize,
 }
 
@@ -122,29 +122,29 @@ pub fn read_repeater(text: &[u8], at: usize, to: usize) -> RepeaterTo
     if let Some((repeat, a)) = read_repeat(text, at, to) {
         let Some((delay, b)) = read_delay(text, a, to) else {
             return RepeaterTo {
-                repeater: Repeater::Repeats(repeat),
+                repeater: Some(Repeater::Repeats(repeat)),
                 end: a,
             };
         };
         return RepeaterTo {
-            repeater: Repeater::RepeatsDelays(repeat, delay),
+            repeater: Some(Repeater::RepeatsDelays(repeat, delay)),
             end: b,
         };
     }
     let Some((delay, a)) = read_delay(text, at, to) else {
         return RepeaterTo {
-            repeater: Repeater::Nothing,
+            repeater: None,
             end: at,
         };
     };
     let Some((repeat, b)) = read_repeat(text, a, to) else {
         return RepeaterTo {
-            repeater: Repeater::Delays(delay),
+            repeater: Some(Repeater::Delays(delay)),
             end: a,
         };
     };
     RepeaterTo {
-        repeater: Repeater::DelaysRepeats(delay, repeat),
+        repeater: Some(Repeater::DelaysRepeats(delay, repeat)),
         end: b,
     }
 }

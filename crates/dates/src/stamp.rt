@@ -51,7 +51,6 @@ pub struct Delay {
 // A repeater, a delay, or both in either order.
 #[derive(Clone, Copy)]
 pub enum Repeater {
-    Nothing,
     Repeats(Repeat),
     Delays(Delay),
     RepeatsDelays(Repeat, Delay),
@@ -64,13 +63,12 @@ pub enum Bracket {
     Inactive,
 }
 
-// A timestamp: of one date; with a time range, whose first time is the moment's; with a second date; or none.
+// A timestamp: of one date; with a time range, whose first time is the moment's; or with a second date.
 #[derive(Clone, Copy)]
 pub enum Timestamp {
-    Nothing,
-    Single(Bracket, Moment, Repeater),
-    Times(Bracket, Moment, Time, Repeater),
-    Dates(Bracket, Moment, Repeater, Moment, Repeater),
+    Single(Bracket, Moment, Option<Repeater>),
+    Times(Bracket, Moment, Time, Option<Repeater>),
+    Dates(Bracket, Moment, Option<Repeater>, Moment, Option<Repeater>),
 }
 
 // What stands in one pair of brackets; `until` is the end of a time range.
@@ -78,5 +76,5 @@ pub enum Timestamp {
 pub struct Half {
     pub moment: Moment,
     pub until: Option<Time>,
-    pub repeater: Repeater,
+    pub repeater: Option<Repeater>,
 }

@@ -8,6 +8,7 @@ use Prim.Native.Nat.{ℕ, zero, suc, ◌-◌, ◌≤◌, ◌<◌}
 use native.Mathlib.Omega.{arith}
 use lib.ListN.{length}
 use borrow.Table.Steps.{cases}
+use Rattle.std.specs.declared.option.Option as Options
 use Rattle.text.specs.Runs.{word, is_empty, begins}
 use Rattle.text.specs.Parts.{part}
 use Rattle.text.proofs.Laws.Parts.{part-nil, part-cons}
@@ -20,12 +21,11 @@ use Rattle.dates.specs.declared.planning.Keyword.TheVariants.{Closed, Deadline, 
 use Rattle.dates.specs.declared.planning.Places.{Places}
 use Rattle.dates.specs.declared.planning.Planning.{Planning}
 use Rattle.dates.specs.declared.stamp.Timestamp.{Timestamp}
-use Rattle.dates.specs.declared.stamp.Timestamp.TheVariants.{Nothing}
 
 -- ---- the parts from byte p on, up to n, after those whose stamps are a
 
 module _ (s : List ℕ) (p e : ℕ) (a : Planning) where
-  pub planning-missing : (n : ℕ) → Reads {A = Keyword × Timestamp} s p e planning_part none → planning_parts n a (part s p e) ≡ none
+  pub planning-missing : (n : ℕ) → Reads {A = Keyword × Options.Option Timestamp} s p e planning_part none → planning_parts n a (part s p e) ≡ none
   unfolding planning_parts
   planning-missing zero h = refl
   planning-missing (suc n) h = rw h.is
@@ -35,7 +35,7 @@ module _ (s : List ℕ) (p e : ℕ) (a : Planning) where
   planning-end zero h = refl
   planning-end (suc n) h = rw (part-nil s p e h)
 
-  module _ (k : Keyword) (t : Timestamp) (q : ℕ) (h : Reads s p e planning_part (some ((k, t), q))) where
+  module _ (k : Keyword) (t : Options.Option Timestamp) (q : ℕ) (h : Reads s p e planning_part (some ((k, t), q))) where
     -- without blank bytes after a part it is the last, and the end follows
     pub planning-last : (n : ℕ) → 1 ≤ n → Reads {A = Unit {0}} s q e gap none → q ≡ e → planning_parts n a (part s p e) ≡ some (put k t a)
     unfolding planning_parts is_empty
@@ -66,7 +66,7 @@ module _ (s : List ℕ) (e : ℕ) where
   placed-in Deadline q p h i = (i.0, h, i.2)
   placed-in Scheduled q p h i = (i.0, i.1, h)
 
-  stamp_in-end : stamp_in s e e ≡ Nothing
+  stamp_in-end : stamp_in s e e ≡ Options.TheVariants.None
   unfolding stamp_in timestamp begins word
   stamp_in-end = ap (λ (x : List ℕ). (timestamp x).0) (part-nil s e e (omega arith))
 

@@ -1,6 +1,6 @@
 -- Laws of an optional day name, of an interval and of a delay's mark, in a part of a text.
 -- Assumes nothing.
-use mathlib.Core.Path.{◌≡◌, refl, ap, ◌∙◌}
+use mathlib.Core.Path.{◌≡◌, ap, ◌∙◌}
 use mathlib.Core.Bool.{true, false, and-false}
 use mathlib.Core.List.{List}
 use mathlib.Core.Option.{none, some}
@@ -17,11 +17,10 @@ use Rattle.text.proofs.Basics.{range-in, range-below, range-above}
 use Rattle.text.proofs.Laws.Parts.{part-nil, part-cons}
 use Rattle.text.proofs.Laws.Runs.{run-part}
 use Rattle.dates.specs.Reads.{Reads, pick, gap, value}
-use Rattle.dates.specs.Stamps.{Clock, after_day_name, is_day_name, is_unit, interval_of, unit_after, interval, alone_of, bracketed, timestamp, is_stamp, stamp}
-use Rattle.dates.specs.Found.{half_in, spanned, SpanOf, end_of, stamp_in, stamp_at}
+use Rattle.dates.specs.Stamps.{after_day_name, is_day_name, is_unit, interval_of, unit_after, interval, bracketed, timestamp, stamp}
+use Rattle.dates.specs.Found.{spanned, SpanOf, end_of, stamp_in, stamp_at}
 use Rattle.dates.specs.declared.span.Span.{Span}
 use Rattle.dates.specs.declared.span.Span.TheVariants.{One, Two}
-use Rattle.dates.specs.declared.stamp.Half.{Half}
 use Rattle.dates.specs.declared.stamp.Bracket.{Bracket}
 use Rattle.dates.specs.declared.stamp.Timestamp.{Timestamp}
 use Rattle.dates.proofs.Laws.Reads.{empty-yes, empty-no, after_run-part}
@@ -70,22 +69,17 @@ module _ (s : List ℕ) (p e : ℕ) (h : p ≤ e) (k : e ≤ length s) (q : ℕ)
 
 -- ---- a timestamp that is found by its places is one
 
-is_stamp-alone : (b : Bracket) (h : Half) (k : Clock) → is_stamp (alone_of b h k) ≡ true
-is_stamp-alone b h None = refl
-is_stamp-alone b h (Some t) = refl
-
 module _ (s : List ℕ) (p e : ℕ) (b : Bracket) (o c : List ℕ) (h : timestamp (part s p e) ≡ bracketed b o c (part s p e)) where
   stamp_in-span : (r : Option Span) → SpanOf s p e o c r → stamp_in s p e ≡ spanned b s p e r
   unfolding stamp_in
-  stamp_in-span r i = ap (λ (x : Timestamp × List ℕ). x.0) (h ∙ (i.takes b).is)
+  stamp_in-span r i = ap (λ (x : Option Timestamp × List ℕ). x.0) (h ∙ (i.takes b).is)
 
   pub span-stamp : (r : Option Span) → SpanOf s p e o c r → Reads s p e stamp (stamp_at s p e (option_map end_of r))
   unfolding stamp
   span-stamp None i = record { is = rw (h, (i.takes b).is); within = tt }
   span-stamp (Some (One q)) i =
       let t = i.takes b in
-      let first = half_in (part s (p + 1) e) in
-      record { is = rw (stamp_in-span (Some (One q)) i, h, t.is, is_stamp-alone b first first.until); within = (t.from, t.to) }
+      record { is = rw (stamp_in-span (Some (One q)) i, h, t.is); within = (t.from, t.to) }
   span-stamp (Some (Two a q)) i =
       let t = i.takes b in
       record { is = rw (stamp_in-span (Some (Two a q)) i, h, t.is); within = (t.from, t.to) }

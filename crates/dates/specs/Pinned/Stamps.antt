@@ -1,6 +1,7 @@
 -- Timestamps  [02 order 1]: the smallest readings, which bytes are a timestamp, and what a timestamp holds.
 use Rattle.std.specs.Prelude.{Bool, false, not, List, [], ◌∷◌, ◌++◌, map, ℕ, length}
 use Rattle.std.specs.declared.option.Option as Options
+use Rattle.std.specs.declared.option.Option.TheVariants.{None, Some}
 use Rattle.std.proofs.Math.Option.{none, some}
 use Prim.Native.String.{String}
 use Rattle.text.specs.Runs.{word, is_empty}
@@ -20,7 +21,7 @@ use Rattle.dates.specs.declared.stamp.Repeater.TheVariants as Repeaters
 use Rattle.dates.specs.declared.stamp.Bracket.{Bracket}
 use Rattle.dates.specs.declared.stamp.Bracket.TheVariants.{Active, Inactive}
 use Rattle.dates.specs.declared.stamp.Timestamp.{Timestamp}
-use Rattle.dates.specs.declared.stamp.Timestamp.TheVariants.{Nothing, Single, Times, Dates}
+use Rattle.dates.specs.declared.stamp.Timestamp.TheVariants.{Single, Times, Dates}
 
 -- ---- a timestamp as numbers
 
@@ -33,8 +34,8 @@ of_time t = t.hour ∷ t.minute ∷ []
 -- 0, or 1 and the time
 unfoldable pub of_clock : Clock → List ℕ
 unfolding of_time
-of_clock Options.TheVariants.None = 0 ∷ []
-of_clock (Options.TheVariants.Some t) = 1 ∷ of_time t
+of_clock None = 0 ∷ []
+of_clock (Some t) = 1 ∷ of_time t
 
 unfoldable pub of_moment : Moment → List ℕ
 unfolding of_date of_clock
@@ -53,8 +54,8 @@ of_mark Restart = 3 ∷ []
 -- 0, or 1 and the interval
 unfoldable pub of_limit : Options.Option Interval → List ℕ
 unfolding of_interval
-of_limit Options.TheVariants.None = 0 ∷ []
-of_limit (Options.TheVariants.Some i) = 1 ∷ of_interval i
+of_limit None = 0 ∷ []
+of_limit (Some i) = 1 ∷ of_interval i
 
 unfoldable pub of_repeat : Repeat → List ℕ
 unfolding of_mark of_interval of_limit
@@ -66,13 +67,13 @@ unfolding of_interval
 of_delay d = pick d.first 2 1 ∷ of_interval d.by
 
 -- 0 neither, 1 a repeater, 2 a delay, 3 a repeater and a delay, 4 a delay and a repeater
-unfoldable pub of_repeater : Repeater → List ℕ
+unfoldable pub of_repeater : Options.Option Repeater → List ℕ
 unfolding of_repeat of_delay
-of_repeater Repeaters.Nothing = 0 ∷ []
-of_repeater (Repeaters.Repeats r) = 1 ∷ of_repeat r
-of_repeater (Repeaters.Delays d) = 2 ∷ of_delay d
-of_repeater (Repeaters.RepeatsDelays r d) = 3 ∷ of_repeat r ++ of_delay d
-of_repeater (Repeaters.DelaysRepeats d r) = 4 ∷ of_delay d ++ of_repeat r
+of_repeater None = 0 ∷ []
+of_repeater (Some (Repeaters.Repeats r)) = 1 ∷ of_repeat r
+of_repeater (Some (Repeaters.Delays d)) = 2 ∷ of_delay d
+of_repeater (Some (Repeaters.RepeatsDelays r d)) = 3 ∷ of_repeat r ++ of_delay d
+of_repeater (Some (Repeaters.DelaysRepeats d r)) = 4 ∷ of_delay d ++ of_repeat r
 
 -- 1 active, 2 inactive
 unfoldable pub of_bracket : Bracket → ℕ
@@ -80,12 +81,12 @@ of_bracket Active = 1
 of_bracket Inactive = 2
 
 -- 0 none, 1 of one date, 2 with a time range, 3 with a second date
-unfoldable pub of_stamp : Timestamp → List ℕ
+unfoldable pub of_stamp : Options.Option Timestamp → List ℕ
 unfolding of_bracket of_moment of_repeater
-of_stamp Nothing = 0 ∷ []
-of_stamp (Single b m r) = 1 ∷ of_bracket b ∷ of_moment m ++ of_repeater r
-of_stamp (Times b m t r) = 2 ∷ of_bracket b ∷ of_moment m ++ of_time t ++ of_repeater r
-of_stamp (Dates b m r n q) = 3 ∷ of_bracket b ∷ of_moment m ++ of_repeater r ++ of_moment n ++ of_repeater q
+of_stamp None = 0 ∷ []
+of_stamp (Some (Single b m r)) = 1 ∷ of_bracket b ∷ of_moment m ++ of_repeater r
+of_stamp (Some (Times b m t r)) = 2 ∷ of_bracket b ∷ of_moment m ++ of_time t ++ of_repeater r
+of_stamp (Some (Dates b m r n q)) = 3 ∷ of_bracket b ∷ of_moment m ++ of_repeater r ++ of_moment n ++ of_repeater q
 
 -- ---- the smallest readings
 
@@ -272,7 +273,7 @@ part_cases =
 
 -- ---- which bytes are a timestamp, with nothing after it
 
-unfoldable pub is_whole : Read Timestamp → Bool
+unfoldable pub is_whole : Read (Options.Option Timestamp) → Bool
 is_whole none = false
 is_whole (some r) = is_empty r.1
 

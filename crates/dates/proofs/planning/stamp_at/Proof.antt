@@ -4,6 +4,7 @@ use borrow.Author.Rules.{rules}
 use mathlib.Core.Path.{sym, ap}
 use Prim.Native.Nat.{ℕ}
 use mathlib.Core.List.{List}
+use Rattle.std.specs.declared.option.Option.{Option}
 use Rattle.dates.specs.Found.{stamp_in}
 use Rattle.dates.specs.declared.stamp.Timestamp.{Timestamp}
 use Rattle.dates.proofs.planning.stamp_at.Statement.{statement}
@@ -11,7 +12,7 @@ use Rattle.dates.proofs.planning.stamp_at.Tie as tie
 
 returns : tie.Need-returns
 unfolding stamp_in
-returns c = sym (ap (λ (x : Timestamp × List ℕ). x.0) c.read_timestamp.ensures.is)
+returns c = sym (ap (λ (x : Option Timestamp × List ℕ). x.0) c.read_timestamp.ensures.is)
 
 pub stamp_at_spec : {M : Type 1} → statement M
 stamp_at_spec =
