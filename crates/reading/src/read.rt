@@ -2,7 +2,7 @@ ghost use Rattle.std.specs.Prelude.{◌≤◌, length};
 ghost use Rattle.text.specs.Limits.{text_limit};
 ghost use Rattle.reading.specs.Promises.{Settled};
 
-use crate::answer::Answer;
+use crate::answer::Refusal;
 use crate::kept::{copy, keep, read_on};
 use table::record;
 use text::limit;
@@ -16,11 +16,11 @@ const STORE: usize = 15200;
 
 // Reads a text into a lent table, eight numbers a record. Tries in turn: the text is over 65,536 bytes; a drawer, greater block or list lies at
 // depth 33 or more; the table has too little room. A refusal leaves the table as it was: all is counted before anything is written.
-pub fn read(text: &[u8], table: &mut [u32]) -> Answer
+pub fn read(text: &[u8], table: &mut [u32]) -> Result<usize, Refusal>
     ensures { Settled text.now table.old result table.new }
 {
     if limit::TEXT < text.len() {
-        return Answer::TooLong;
+        return Err(Refusal::TooLong);
     }
     if text.len() <= SMALL_TEXT {
         return read_small(text, table);
@@ -28,7 +28,7 @@ pub fn read(text: &[u8], table: &mut [u32]) -> Answer
     read_large(text, table)
 }
 
-fn read_small(text: &[u8], table: &mut [u32]) -> Answer
+fn read_small(text: &[u8], table: &mut [u32]) -> Result<usize, Refusal>
     requires { length text.now ≤ text_limit }
     ensures { Settled text.now table.old result table.new }
 {
@@ -36,7 +36,7 @@ fn read_small(text: &[u8], table: &mut [u32]) -> Answer
     read_with(text, &mut store, table)
 }
 
-fn read_large(text: &[u8], table: &mut [u32]) -> Answer
+fn read_large(text: &[u8], table: &mut [u32]) -> Result<usize, Refusal>
     requires { length text.now ≤ text_limit }
     ensures { Settled text.now table.old result table.new }
 {
@@ -46,20 +46,20 @@ fn read_large(text: &[u8], table: &mut [u32]) -> Answer
 
 // The reading, with a store. The count keeps the first records there, so that the parts of the text that they come from are not read again to
 // write them.
-fn read_with(text: &[u8], store: &mut [u32], table: &mut [u32]) -> Answer
+fn read_with(text: &[u8], store: &mut [u32], table: &mut [u32]) -> Result<usize, Refusal>
     requires { length text.now ≤ text_limit }
     ensures { Settled text.now table.old result table.new }
 {
     let kept = keep(text, store);
     let counted = read_on(text, kept, table, false);
     if counted.stopped {
-        return Answer::TooDeep;
+        return Err(Refusal::TooDeep);
     }
     let count = counted.count;
     if table.len() / record::SIZE < count {
-        return Answer::NoRoom(count);
+        return Err(Refusal::NoRoom(count));
     }
     copy(store, kept.count * record::SIZE, table);
     read_on(text, kept, table, true);
-    Answer::Done(count)
+    Ok(count)
 }

@@ -1,8 +1,7 @@
 -- `reading::sink::emit` meets its contract: the record is taken as `absorb` says, or the sink stops.
 -- Assumes nothing.
-use Rattle.std.proofs.Common.{sym, ◌∙◌, ap}
+use Rattle.std.proofs.Common.{sym, ◌∙◌}
 use Rattle.reading.proofs.Laws.Absorb.{absorb-stop, absorb-deep, absorb-full, absorb-put, absorb-count}
-use Rattle.reading.specs.Walk.{state}
 use Rattle.reading.proofs.sink.emit.Goals as goal
 use Rattle.reading.proofs.sink.emit.Goals.{then-sink-2+else-table-at, else-sink-2}
 
