@@ -1,5 +1,4 @@
 ghost use Rattle.std.specs.Prelude.{◌≡◌, false, ◌+◌, ◌*◌, ◌≤◌, ◌<◌, length};
-ghost use Rattle.std.proofs.Math.Seq.{paste};
 ghost use Rattle.text.specs.Limits.{text_limit};
 ghost use Rattle.reading.specs.Walk.{state, sink_of, HeadingOrEnd, NumberOf, far};
 ghost use Rattle.reading.specs.Kept.{Keeps, MayKeep, GoesOn};
@@ -91,16 +90,4 @@ pub fn read_on(text: &[u8], kept: Kept, table: &mut [u32], writing: bool) -> Sin
         return walk(text, table, sink);
     }
     read_headings(text, kept.at, kept.line, kept.last, table, sink)
-}
-
-// The first numbers of a store, written to the front of a table.
-pub fn copy(store: &[u32], n: usize, table: &mut [u32])
-    requires { (n ≤ length store.now) × (n ≤ length table.old) }
-    ensures { table.new ≡ paste table.old 0 store.now n }
-{
-    let mut i = 0;
-    while i < n {
-        table[i] = store[i];
-        i += 1;
-    }
 }

@@ -1,9 +1,9 @@
-ghost use Rattle.std.specs.Prelude.{◌≤◌, length};
+ghost use Rattle.std.specs.Prelude.{◌≤◌, ◌<◌, ◌^◌, length};
 ghost use Rattle.text.specs.Limits.{text_limit};
 ghost use Rattle.reading.specs.Promises.{Settled};
 
 use crate::answer::Refusal;
-use crate::kept::{copy, keep, read_on};
+use crate::kept::{keep, read_on};
 use table::record;
 use text::limit;
 
@@ -23,24 +23,17 @@ pub fn read(text: &[u8], table: &mut [u32]) -> Result<usize, Refusal>
         return Err(Refusal::TooLong);
     }
     if text.len() <= SMALL_TEXT {
-        return read_small(text, table);
+        return read_in::<SMALL_STORE>(text, table);
     }
-    read_large(text, table)
+    read_in::<STORE>(text, table)
 }
 
-fn read_small(text: &[u8], table: &mut [u32]) -> Result<usize, Refusal>
-    requires { length text.now ≤ text_limit }
+// The reading, with a store of so many numbers.
+fn read_in<const N: usize>(text: &[u8], table: &mut [u32]) -> Result<usize, Refusal>
+    requires { (length text.now ≤ text_limit) × (N < 2 ^ 16) }
     ensures { Settled text.now table.old result table.new }
 {
-    let mut store = [0u32; SMALL_STORE];
-    read_with(text, &mut store, table)
-}
-
-fn read_large(text: &[u8], table: &mut [u32]) -> Result<usize, Refusal>
-    requires { length text.now ≤ text_limit }
-    ensures { Settled text.now table.old result table.new }
-{
-    let mut store = [0u32; STORE];
+    let mut store = [0u32; N];
     read_with(text, &mut store, table)
 }
 
@@ -59,7 +52,8 @@ fn read_with(text: &[u8], store: &mut [u32], table: &mut [u32]) -> Result<usize,
     if table.len() / record::SIZE < count {
         return Err(Refusal::NoRoom(count));
     }
-    copy(store, kept.count * record::SIZE, table);
+    let size = kept.count * record::SIZE;
+    table[..size].copy_from_slice(&store[..size]);
     read_on(text, kept, table, true);
     Ok(count)
 }
