@@ -52,8 +52,10 @@ fn read_with(text: &[u8], store: &mut [u32], table: &mut [u32]) -> Result<usize,
     if table.len() / record::SIZE < count {
         return Err(Refusal::NoRoom(count));
     }
-    let size = kept.count * record::SIZE;
-    table[..size].copy_from_slice(&store[..size]);
+    if let Some(k) = kept {
+        let size = k.count * record::SIZE;
+        table[..size].copy_from_slice(&store[..size]);
+    }
     read_on(text, kept, table, true);
     Ok(count)
 }

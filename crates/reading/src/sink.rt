@@ -2,7 +2,7 @@ ghost use Rattle.std.specs.Prelude.{◌≡◌, true, false, ◌+◌, ◌*◌, �
 ghost use Rattle.std.proofs.lemmas.List.Edits.{sets};
 ghost use Rattle.text.specs.Limits.{depth_limit};
 ghost use Rattle.table.specs.Records.{numbers_of, record_size};
-ghost use Rattle.reading.specs.Walk.{Small, state, absorb, entry, far};
+ghost use Rattle.reading.specs.Walk.{Small, state, sink_of, absorb, entry, far};
 
 use table::record;
 use table::record::Record;
@@ -14,6 +14,29 @@ pub struct Sink {
     pub count: usize,
     pub writing: bool,
     pub stopped: bool,
+}
+
+impl Sink {
+    // A sink that has taken so many records.
+    pub fn after(count: usize, writing: bool) -> Sink
+        ensures { result ≡ sink_of count writing false }
+    {
+        Sink {
+            count,
+            writing,
+            stopped: false,
+        }
+    }
+
+    // The sink, stopped.
+    fn stop(self) -> Sink
+        ensures { result ≡ sink_of self.count self.writing true }
+    {
+        Sink {
+            stopped: true,
+            ..self
+        }
+    }
 }
 
 // A record's numbers, written from an index on.
@@ -42,29 +65,17 @@ pub fn emit(table: &mut [u32], sink: Sink, r: Record, depth: usize) -> Sink
         return sink;
     }
     if limit::DEPTH < depth {
-        return stop(sink);
+        return sink.stop();
     }
     if sink.writing {
         let at = sink.count * record::SIZE;
         if table.len() < at + record::SIZE {
-            return stop(sink);
+            return sink.stop();
         }
         put(table, at, r);
     }
     Sink {
         count: sink.count + 1,
-        writing: sink.writing,
-        stopped: false,
-    }
-}
-
-// The sink, stopped.
-fn stop(sink: Sink) -> Sink
-    ensures { result ≡ record { count = sink.count; writing = sink.writing; stopped = true } }
-{
-    Sink {
-        count: sink.count,
-        writing: sink.writing,
-        stopped: true,
+        ..sink
     }
 }
