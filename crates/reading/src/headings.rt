@@ -60,28 +60,12 @@ fn heading_record(
     Record {
         kind: kind::HEADING,
         start: at,
-        end: end,
+        end,
         from: inner,
         to: end,
         parent: find_parent(table, last, stars),
         detail: stars,
         line: number,
-    }
-}
-
-// A record that is only counted.
-fn unwritten() -> Record
-    ensures { Small result }
-{
-    Record {
-        kind: 0,
-        start: 0,
-        end: 0,
-        from: 0,
-        to: 0,
-        parent: 0,
-        detail: 0,
-        line: 0,
     }
 }
 
@@ -114,7 +98,7 @@ pub fn read_heading(
     let r = if sink.writing {
         heading_record(text, table, at, inner, next, stars, last, number)
     } else {
-        unwritten()
+        Record::default()
     };
     let out = emit(table, sink, r, 0);
     let section = read_section(
@@ -127,10 +111,9 @@ pub fn read_heading(
         table,
         out,
     );
-    let after = section.sink;
     Turn {
-        next: next,
-        sink: after,
+        next,
+        sink: section.sink,
         line: section.line,
     }
 }
@@ -172,21 +155,16 @@ pub fn read_opening(text: &[u8], table: &mut [u32], sink: Sink) -> Turn
     let end = text.len();
     let r = Record {
         kind: kind::DOCUMENT,
-        start: 0,
-        end: end,
-        from: 0,
+        end,
         to: end,
-        parent: 0,
-        detail: 0,
-        line: 0,
+        ..Record::default()
     };
     let out = emit(table, sink, r, 0);
     let first = next_heading(text, 0, end);
     let section = read_section(text, 0, first, Place::Opening, 0, 0, table, out);
-    let after = section.sink;
     Turn {
         next: first,
-        sink: after,
+        sink: section.sink,
         line: section.line,
     }
 }

@@ -1,7 +1,6 @@
-ghost use Rattle.std.specs.Prelude.{◌≡◌, true, false, ◌+◌, ◌*◌, ◌≤◌, length};
-ghost use Rattle.std.proofs.lemmas.List.Edits.{sets};
+ghost use Rattle.std.specs.Prelude.{◌≡◌, true, false, ◌+◌, ◌≤◌};
 ghost use Rattle.text.specs.Limits.{depth_limit};
-ghost use Rattle.table.specs.Records.{numbers_of, record_size};
+ghost use Rattle.table.specs.Records.{numbers_of};
 ghost use Rattle.reading.specs.Walk.{Small, state, sink_of, absorb, entry, far};
 
 use table::record;
@@ -39,19 +38,21 @@ impl Sink {
     }
 }
 
-// A record's numbers, written from an index on.
-fn put(table: &mut [u32], at: usize, r: Record)
-    requires { (at + record_size ≤ length table.old) × Small r }
-    ensures { table.new ≡ sets table.old at (numbers_of r) }
+// A record's numbers, in their order in the table.
+fn numbers(r: Record) -> [u32; record::SIZE]
+    requires { Small r }
+    ensures { result ≡ numbers_of r }
 {
-    table[at] = r.kind as u32;
-    table[at + 1] = r.start as u32;
-    table[at + 2] = r.end as u32;
-    table[at + 3] = r.from as u32;
-    table[at + 4] = r.to as u32;
-    table[at + record::PARENT] = r.parent as u32;
-    table[at + record::DETAIL] = r.detail as u32;
-    table[at + record::LINE] = r.line as u32;
+    [
+        r.kind as u32,
+        r.start as u32,
+        r.end as u32,
+        r.from as u32,
+        r.to as u32,
+        r.parent as u32,
+        r.detail as u32,
+        r.line as u32,
+    ]
 }
 
 // One record more, of a depth. A depth of 33 stops the sink, and so does a record that has no room in the writing mode.
@@ -69,10 +70,11 @@ pub fn emit(table: &mut [u32], sink: Sink, r: Record, depth: usize) -> Sink
     }
     if sink.writing {
         let at = sink.count * record::SIZE;
-        if table.len() < at + record::SIZE {
+        let end = at + record::SIZE;
+        if table.len() < end {
             return sink.stop();
         }
-        put(table, at, r);
+        table[at..end].copy_from_slice(&numbers(r));
     }
     Sink {
         count: sink.count + 1,
