@@ -119,31 +119,18 @@ pub fn read_heading(
 }
 
 // The headings from a heading line on. `before` is the heading before them.
-pub fn read_headings(
-    text: &[u8],
-    from: usize,
-    number: usize,
-    before: usize,
-    table: &mut [u32],
-    sink: Sink,
-) -> Sink
-    requires { HeadingOrEnd text.now from × (before ≤ far) × (sink.count ≤ 2 * from + 2) × NumberOf text.now from number }
-    ensures { (hs : Earlier) → before ≡ last_index hs → Tracked (state table.old sink) hs → Takes table.old sink (headings_from text.now hs from sink.count) table.new result }
+pub fn read_headings(text: &[u8], from: Turn, before: usize, table: &mut [u32]) -> Sink
+    requires { HeadingOrEnd text.now from.next × (before ≤ far) × (from.sink.count ≤ 2 * from.next + 2) × NumberOf text.now from.next from.line }
+    ensures { (hs : Earlier) → before ≡ last_index hs → Tracked (state table.old from.sink) hs → Takes table.old from.sink (headings_from text.now hs from.next from.sink.count) table.new result }
 {
-    let end = text.len();
-    let mut at = from;
-    let mut n = number;
+    let mut turn = from;
     let mut last = before;
-    let mut out = sink;
-    while at < end {
-        let index = out.count;
-        let turn = read_heading(text, at, n, last, table, out);
-        out = turn.sink;
-        n = turn.line;
+    while turn.next < text.len() {
+        let index = turn.sink.count;
+        turn = read_heading(text, turn.next, turn.line, last, table, turn.sink);
         last = index;
-        at = turn.next;
     }
-    out
+    turn.sink
 }
 
 // The document and the zeroth section.
@@ -175,5 +162,5 @@ pub fn walk(text: &[u8], table: &mut [u32], sink: Sink) -> Sink
     ensures { Takes table.old sink (reading_entries text.now) table.new result }
 {
     let turn = read_opening(text, table, sink);
-    read_headings(text, turn.next, turn.line, 0, table, turn.sink)
+    read_headings(text, turn, 0, table)
 }

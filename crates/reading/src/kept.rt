@@ -3,7 +3,7 @@ ghost use Rattle.text.specs.Limits.{text_limit};
 ghost use Rattle.reading.specs.Walk.{state, HeadingOrEnd, NumberOf, far};
 ghost use Rattle.reading.specs.Kept.{Keeps, GoesOn};
 
-use crate::headings::{read_heading, read_headings, read_opening, walk};
+use crate::headings::{Turn, read_heading, read_headings, read_opening, walk};
 use crate::sink::Sink;
 
 // The records that stand in a store: so many, up to the heading line at `at` of number `line`, before which the heading of index `last` stands.
@@ -63,6 +63,10 @@ pub fn read_on(text: &[u8], kept: Option<Kept>, table: &mut [u32], writing: bool
     let Some(k) = kept else {
         return walk(text, table, Sink::after(0, writing));
     };
-    let sink = Sink::after(k.count, writing);
-    read_headings(text, k.at, k.line, k.last, table, sink)
+    let from = Turn {
+        next: k.at,
+        sink: Sink::after(k.count, writing),
+        line: k.line,
+    };
+    read_headings(text, from, k.last, table)
 }
