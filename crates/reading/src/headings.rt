@@ -60,28 +60,12 @@ fn heading_record(
     Record {
         kind: kind::HEADING,
         start: at,
-        end: end,
+        end,
         from: inner,
         to: end,
         parent: find_parent(table, last, stars),
         detail: stars,
         line: number,
-    }
-}
-
-// A record that is only counted.
-fn unwritten() -> Record
-    ensures { Small result }
-{
-    Record {
-        kind: 0,
-        start: 0,
-        end: 0,
-        from: 0,
-        to: 0,
-        parent: 0,
-        detail: 0,
-        line: 0,
     }
 }
 
@@ -114,7 +98,7 @@ pub fn read_heading(
     let r = if sink.writing {
         heading_record(text, table, at, inner, next, stars, last, number)
     } else {
-        unwritten()
+        Record::default()
     };
     let out = emit(table, sink, r, 0);
     let section = read_section(
@@ -127,40 +111,26 @@ pub fn read_heading(
         table,
         out,
     );
-    let after = section.sink;
     Turn {
-        next: next,
-        sink: after,
+        next,
+        sink: section.sink,
         line: section.line,
     }
 }
 
 // The headings from a heading line on. `before` is the heading before them.
-pub fn read_headings(
-    text: &[u8],
-    from: usize,
-    number: usize,
-    before: usize,
-    table: &mut [u32],
-    sink: Sink,
-) -> Sink
-    requires { HeadingOrEnd text.now from × (before ≤ far) × (sink.count ≤ 2 * from + 2) × NumberOf text.now from number }
-    ensures { (hs : Earlier) → before ≡ last_index hs → Tracked (state table.old sink) hs → Takes table.old sink (headings_from text.now hs from sink.count) table.new result }
+pub fn read_headings(text: &[u8], from: Turn, before: usize, table: &mut [u32]) -> Sink
+    requires { HeadingOrEnd text.now from.next × (before ≤ far) × (from.sink.count ≤ 2 * from.next + 2) × NumberOf text.now from.next from.line }
+    ensures { (hs : Earlier) → before ≡ last_index hs → Tracked (state table.old from.sink) hs → Takes table.old from.sink (headings_from text.now hs from.next from.sink.count) table.new result }
 {
-    let end = text.len();
-    let mut at = from;
-    let mut n = number;
+    let mut turn = from;
     let mut last = before;
-    let mut out = sink;
-    while at < end {
-        let index = out.count;
-        let turn = read_heading(text, at, n, last, table, out);
-        out = turn.sink;
-        n = turn.line;
+    while turn.next < text.len() {
+        let index = turn.sink.count;
+        turn = read_heading(text, turn.next, turn.line, last, table, turn.sink);
         last = index;
-        at = turn.next;
     }
-    out
+    turn.sink
 }
 
 // The document and the zeroth section.
@@ -172,21 +142,16 @@ pub fn read_opening(text: &[u8], table: &mut [u32], sink: Sink) -> Turn
     let end = text.len();
     let r = Record {
         kind: kind::DOCUMENT,
-        start: 0,
-        end: end,
-        from: 0,
+        end,
         to: end,
-        parent: 0,
-        detail: 0,
-        line: 0,
+        ..Record::default()
     };
     let out = emit(table, sink, r, 0);
     let first = next_heading(text, 0, end);
     let section = read_section(text, 0, first, Place::Opening, 0, 0, table, out);
-    let after = section.sink;
     Turn {
         next: first,
-        sink: after,
+        sink: section.sink,
         line: section.line,
     }
 }
@@ -197,5 +162,5 @@ pub fn walk(text: &[u8], table: &mut [u32], sink: Sink) -> Sink
     ensures { Takes table.old sink (reading_entries text.now) table.new result }
 {
     let turn = read_opening(text, table, sink);
-    read_headings(text, turn.next, turn.line, 0, table, turn.sink)
+    read_headings(text, turn, 0, table)
 }

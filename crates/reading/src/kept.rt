@@ -1,14 +1,12 @@
-ghost use Rattle.std.specs.Prelude.{◌≡◌, false, ◌+◌, ◌*◌, ◌≤◌, ◌<◌, length};
-ghost use Rattle.std.proofs.Math.Seq.{paste};
+ghost use Rattle.std.specs.Prelude.{◌≡◌, ◌+◌, ◌*◌, ◌≤◌, IfSome, length};
 ghost use Rattle.text.specs.Limits.{text_limit};
-ghost use Rattle.reading.specs.Walk.{state, sink_of, HeadingOrEnd, NumberOf, far};
-ghost use Rattle.reading.specs.Kept.{Keeps, MayKeep, GoesOn};
+ghost use Rattle.reading.specs.Walk.{state, HeadingOrEnd, NumberOf, far};
+ghost use Rattle.reading.specs.Kept.{Keeps, GoesOn};
 
-use crate::headings::{read_heading, read_headings, read_opening, walk};
+use crate::headings::{Turn, read_heading, read_headings, read_opening, walk};
 use crate::sink::Sink;
 
 // The records that stand in a store: so many, up to the heading line at `at` of number `line`, before which the heading of index `last` stands.
-// 0 where none do.
 #[derive(Clone, Copy)]
 pub struct Kept {
     pub at: usize,
@@ -17,90 +15,58 @@ pub struct Kept {
     pub count: usize,
 }
 
-// The headings from a heading line on, as far as the store has room for them with their sections.
-fn keep_headings(text: &[u8], from: usize, number: usize, count: usize, store: &mut [u32]) -> Kept
-    requires { Keeps text.now store.old from number 0 count }
+// The headings after what is kept too, as far as the store has room for them with their sections.
+fn keep_headings(text: &[u8], opening: Kept, store: &mut [u32]) -> Kept
+    requires { Keeps text.now store.old opening.at opening.line opening.last opening.count }
     ensures { Keeps text.now store.new result.at result.line result.last result.count }
 {
-    let end = text.len();
-    let mut at = from;
-    let mut line = number;
-    let mut last = 0;
-    let mut n = count;
-    while at < end {
-        let sink = Sink {
-            count: n,
-            writing: true,
-            stopped: false,
-        };
-        let turn = read_heading(text, at, line, last, store, sink);
+    let mut kept = opening;
+    while kept.at < text.len() {
+        let sink = Sink::after(kept.count, true);
+        let turn = read_heading(text, kept.at, kept.line, kept.last, store, sink);
         if turn.sink.stopped {
-            return Kept {
-                at: at,
-                line: line,
-                last: last,
-                count: n,
-            };
+            break;
         }
-        last = n;
-        n = turn.sink.count;
-        line = turn.line;
-        at = turn.next;
+        kept = Kept {
+            at: turn.next,
+            line: turn.line,
+            last: kept.count,
+            count: turn.sink.count,
+        };
     }
-    Kept {
-        at: at,
-        line: line,
-        last: last,
-        count: n,
-    }
+    kept
 }
 
 // The first records of a text, as many as the store has room for, up to a heading line; none where the document and its own section have no room.
-pub fn keep(text: &[u8], store: &mut [u32]) -> Kept
+pub fn keep(text: &[u8], store: &mut [u32]) -> Option<Kept>
     requires { length text.now ≤ text_limit }
-    ensures { MayKeep text.now store.new result }
+    ensures { IfSome result (λ k. Keeps text.now store.new k.at k.line k.last k.count) }
 {
-    let sink = Sink {
-        count: 0,
-        writing: true,
-        stopped: false,
-    };
-    let turn = read_opening(text, store, sink);
+    let turn = read_opening(text, store, Sink::after(0, true));
     if turn.sink.stopped {
-        return Kept {
-            at: 0,
-            line: 0,
-            last: 0,
-            count: 0,
-        };
+        return None;
     }
-    keep_headings(text, turn.next, turn.line, turn.sink.count, store)
+    let opening = Kept {
+        at: turn.next,
+        line: turn.line,
+        last: 0,
+        count: turn.sink.count,
+    };
+    Some(keep_headings(text, opening, store))
 }
 
 // The records after those that are kept, counted or written.
-pub fn read_on(text: &[u8], kept: Kept, table: &mut [u32], writing: bool) -> Sink
-    requires { (length text.now ≤ text_limit) × (0 < kept.count → HeadingOrEnd text.now kept.at × (kept.last ≤ far) × (kept.count ≤ 2 * kept.at + 2) × NumberOf text.now kept.at kept.line) }
-    ensures { GoesOn text.now kept (state table.old (sink_of kept.count writing false)) (state table.new result) }
+pub fn read_on(text: &[u8], kept: Option<Kept>, table: &mut [u32], writing: bool) -> Sink
+    requires { (length text.now ≤ text_limit) × IfSome kept (λ k. HeadingOrEnd text.now k.at × (k.last ≤ far) × (k.count ≤ 2 * k.at + 2) × NumberOf text.now k.at k.line) }
+    ensures { GoesOn text.now kept table.old writing (state table.new result) }
 {
-    let sink = Sink {
-        count: kept.count,
-        writing: writing,
-        stopped: false,
+    let Some(k) = kept else {
+        return walk(text, table, Sink::after(0, writing));
     };
-    if kept.count == 0 {
-        return walk(text, table, sink);
-    }
-    read_headings(text, kept.at, kept.line, kept.last, table, sink)
-}
-
-// The first numbers of a store, written to the front of a table.
-pub fn copy(store: &[u32], n: usize, table: &mut [u32])
-    requires { (n ≤ length store.now) × (n ≤ length table.old) }
-    ensures { table.new ≡ paste table.old 0 store.now n }
-{
-    let mut i = 0;
-    while i < n {
-        table[i] = store[i];
-        i += 1;
-    }
+    let from = Turn {
+        next: k.at,
+        sink: Sink::after(k.count, writing),
+        line: k.line,
+    };
+    read_headings(text, from, k.last, table)
 }

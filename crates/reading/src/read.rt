@@ -1,9 +1,9 @@
-ghost use Rattle.std.specs.Prelude.{◌≤◌, length};
+ghost use Rattle.std.specs.Prelude.{◌≤◌, ◌<◌, ◌^◌, length};
 ghost use Rattle.text.specs.Limits.{text_limit};
 ghost use Rattle.reading.specs.Promises.{Settled};
 
-use crate::answer::Answer;
-use crate::kept::{copy, keep, read_on};
+use crate::answer::Refusal;
+use crate::kept::{keep, read_on};
 use table::record;
 use text::limit;
 
@@ -16,50 +16,46 @@ const STORE: usize = 15200;
 
 // Reads a text into a lent table, eight numbers a record. Tries in turn: the text is over 65,536 bytes; a drawer, greater block or list lies at
 // depth 33 or more; the table has too little room. A refusal leaves the table as it was: all is counted before anything is written.
-pub fn read(text: &[u8], table: &mut [u32]) -> Answer
+pub fn read(text: &[u8], table: &mut [u32]) -> Result<usize, Refusal>
     ensures { Settled text.now table.old result table.new }
 {
     if limit::TEXT < text.len() {
-        return Answer::TooLong;
+        return Err(Refusal::TooLong);
     }
     if text.len() <= SMALL_TEXT {
-        return read_small(text, table);
+        return read_in::<SMALL_STORE>(text, table);
     }
-    read_large(text, table)
+    read_in::<STORE>(text, table)
 }
 
-fn read_small(text: &[u8], table: &mut [u32]) -> Answer
-    requires { length text.now ≤ text_limit }
+// The reading, with a store of so many numbers.
+fn read_in<const N: usize>(text: &[u8], table: &mut [u32]) -> Result<usize, Refusal>
+    requires { (length text.now ≤ text_limit) × (N < 2 ^ 16) }
     ensures { Settled text.now table.old result table.new }
 {
-    let mut store = [0u32; SMALL_STORE];
-    read_with(text, &mut store, table)
-}
-
-fn read_large(text: &[u8], table: &mut [u32]) -> Answer
-    requires { length text.now ≤ text_limit }
-    ensures { Settled text.now table.old result table.new }
-{
-    let mut store = [0u32; STORE];
+    let mut store = [0u32; N];
     read_with(text, &mut store, table)
 }
 
 // The reading, with a store. The count keeps the first records there, so that the parts of the text that they come from are not read again to
 // write them.
-fn read_with(text: &[u8], store: &mut [u32], table: &mut [u32]) -> Answer
+fn read_with(text: &[u8], store: &mut [u32], table: &mut [u32]) -> Result<usize, Refusal>
     requires { length text.now ≤ text_limit }
     ensures { Settled text.now table.old result table.new }
 {
     let kept = keep(text, store);
     let counted = read_on(text, kept, table, false);
     if counted.stopped {
-        return Answer::TooDeep;
+        return Err(Refusal::TooDeep);
     }
     let count = counted.count;
     if table.len() / record::SIZE < count {
-        return Answer::NoRoom(count);
+        return Err(Refusal::NoRoom(count));
     }
-    copy(store, kept.count * record::SIZE, table);
+    if let Some(k) = kept {
+        let size = k.count * record::SIZE;
+        table[..size].copy_from_slice(&store[..size]);
+    }
     read_on(text, kept, table, true);
-    Answer::Done(count)
+    Ok(count)
 }

@@ -1,8 +1,7 @@
-ghost use Rattle.std.specs.Prelude.{◌≡◌, true, false, ◌+◌, ◌*◌, ◌≤◌, length};
-ghost use Rattle.std.proofs.lemmas.List.Edits.{sets};
+ghost use Rattle.std.specs.Prelude.{◌≡◌, true, false, ◌+◌, ◌≤◌};
 ghost use Rattle.text.specs.Limits.{depth_limit};
-ghost use Rattle.table.specs.Records.{numbers_of, record_size};
-ghost use Rattle.reading.specs.Walk.{Small, state, absorb, entry, far};
+ghost use Rattle.table.specs.Records.{numbers_of};
+ghost use Rattle.reading.specs.Walk.{Small, state, sink_of, absorb, entry, far};
 
 use table::record;
 use table::record::Record;
@@ -16,19 +15,44 @@ pub struct Sink {
     pub stopped: bool,
 }
 
-// A record's numbers, written from an index on.
-fn put(table: &mut [u32], at: usize, r: Record)
-    requires { (at + record_size ≤ length table.old) × Small r }
-    ensures { table.new ≡ sets table.old at (numbers_of r) }
+impl Sink {
+    // A sink that has taken so many records.
+    pub fn after(count: usize, writing: bool) -> Sink
+        ensures { result ≡ sink_of count writing false }
+    {
+        Sink {
+            count,
+            writing,
+            stopped: false,
+        }
+    }
+
+    // The sink, stopped.
+    fn stop(self) -> Sink
+        ensures { result ≡ sink_of self.count self.writing true }
+    {
+        Sink {
+            stopped: true,
+            ..self
+        }
+    }
+}
+
+// A record's numbers, in their order in the table.
+fn numbers(r: Record) -> [u32; record::SIZE]
+    requires { Small r }
+    ensures { result ≡ numbers_of r }
 {
-    table[at] = r.kind as u32;
-    table[at + 1] = r.start as u32;
-    table[at + 2] = r.end as u32;
-    table[at + 3] = r.from as u32;
-    table[at + 4] = r.to as u32;
-    table[at + record::PARENT] = r.parent as u32;
-    table[at + record::DETAIL] = r.detail as u32;
-    table[at + record::LINE] = r.line as u32;
+    [
+        r.kind as u32,
+        r.start as u32,
+        r.end as u32,
+        r.from as u32,
+        r.to as u32,
+        r.parent as u32,
+        r.detail as u32,
+        r.line as u32,
+    ]
 }
 
 // One record more, of a depth. A depth of 33 stops the sink, and so does a record that has no room in the writing mode.
@@ -42,29 +66,18 @@ pub fn emit(table: &mut [u32], sink: Sink, r: Record, depth: usize) -> Sink
         return sink;
     }
     if limit::DEPTH < depth {
-        return stop(sink);
+        return sink.stop();
     }
     if sink.writing {
         let at = sink.count * record::SIZE;
-        if table.len() < at + record::SIZE {
-            return stop(sink);
+        let end = at + record::SIZE;
+        if table.len() < end {
+            return sink.stop();
         }
-        put(table, at, r);
+        table[at..end].copy_from_slice(&numbers(r));
     }
     Sink {
         count: sink.count + 1,
-        writing: sink.writing,
-        stopped: false,
-    }
-}
-
-// The sink, stopped.
-fn stop(sink: Sink) -> Sink
-    ensures { result ≡ record { count = sink.count; writing = sink.writing; stopped = true } }
-{
-    Sink {
-        count: sink.count,
-        writing: sink.writing,
-        stopped: true,
+        ..sink
     }
 }

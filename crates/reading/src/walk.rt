@@ -47,8 +47,8 @@ fn line_record(
             end: line.end,
             from: line.from,
             to: line.to,
-            parent: parent,
-            detail: detail,
+            parent,
+            detail,
             line: number,
         };
     }
@@ -59,7 +59,7 @@ fn line_record(
         end: line.end,
         from: run_end(text, marker, line.to, Class::Blank),
         to: line.to,
-        parent: parent,
+        parent,
         detail: 0,
         line: number,
     }
@@ -86,8 +86,7 @@ fn read_lines(
     if !sink.writing {
         return Sink {
             count: sink.count + lines,
-            writing: false,
-            stopped: false,
+            ..sink
         };
     }
     let mut at = from;
@@ -143,9 +142,9 @@ fn next_element(
 {
     let scope = Scope {
         end: to,
-        place: place,
-        ends: ends,
-        names: names,
+        place,
+        ends,
+        names,
     };
     let line = line_at(text, at, to);
     let parsed = if items {
@@ -192,10 +191,7 @@ fn read_elements(
     ensures from_bound { (result.sink.count + 2 * from ≤ sink.count + 2 * to) × (from < to → (result.sink.count + 2 * from + slack items ≤ sink.count + 2 * to) × NumberOf text.now to result.line) }
 {
     if to <= from {
-        return Reached {
-            sink: sink,
-            line: number,
-        };
+        return Reached { sink, line: number };
     }
     let mut at = from;
     let mut n = number;
@@ -257,12 +253,12 @@ fn read_element(
     let kind = e.kind;
     let inner = depth_in(depth, kind);
     let r = Record {
-        kind: kind,
+        kind,
         start: at,
-        end: end,
+        end,
         from: e.from,
         to: e.to,
-        parent: parent,
+        parent,
         detail: e.detail,
         line: number,
     };
@@ -318,10 +314,7 @@ pub fn read_section(
     let at = first.at;
     let n = number + first.lines;
     if to <= at {
-        return Reached {
-            sink: sink,
-            line: n,
-        };
+        return Reached { sink, line: n };
     }
     let here = first_place(place, from < at);
     let index = sink.count;
@@ -331,7 +324,7 @@ pub fn read_section(
         end: to,
         from: at,
         to: to,
-        parent: parent,
+        parent,
         detail: 0,
         line: n,
     };

@@ -37,7 +37,7 @@ use Rattle.rules.proofs.Laws.PropertyDrawers.{element-only, property_drawer-inne
 use Rattle.reading.specs.Walk.{inner_place, lines_to, Range, ItemsIn}
 use Rattle.table.proofs.Basics.{split}
 use Rattle.reading.proofs.Laws.NextPlaces.{place_at-first, own-place, some-place, next_place-blank}
-use Rattle.reading.proofs.Laws.Ranges.{property-between, table-rows, run-between, first-nonblank, line-start, end-to, end-start, next-from, rest, inner-order, first_inner, from_is, to_is, from_some, from_start, to_start, inner-range, plain_lines, range-of, Held}
+use Rattle.reading.proofs.Laws.Ranges.{property-between, table-rows, run-between, first-nonblank, line-start, end-to, end-start, next-from, inner-order, first_inner, from_is, to_is, from_some, from_start, to_start, inner-range, plain_lines, range-of, Held}
 use Rattle.rules.proofs.Laws.InLists.{list-first as items-first}
 
 module _ (s : List ℕ) (p e : ℕ) (R : Range s p e) (h : p < e) (whole : R.line ≡ p) where

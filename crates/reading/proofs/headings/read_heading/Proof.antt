@@ -21,7 +21,7 @@ use Rattle.text.proofs.Laws.LineNumbers.{line_number-le, line_number-next}
 use Rattle.reading.proofs.Laws.Absorb.{absorb-any}
 use Rattle.reading.proofs.Laws.SectionPlaces.{heading-stars, heading-line, heading-start, heading-place, heading_line-order}
 use Rattle.reading.proofs.Laws.Tracked.{tracked-heading}
-use Rattle.reading.proofs.Laws.Turns.{heading-entry}
+use Rattle.reading.proofs.Laws.Turns.{heading-entry, default-record}
 use Rattle.reading.proofs.headings.read_heading.Statement.{statement}
 use Rattle.reading.proofs.headings.read_heading.Tie as tie
 use Rattle.reading.proofs.headings.read_heading.Lts.{then-sink, else-sink}
@@ -62,7 +62,7 @@ heading-record-requires c κs = let at_next = c.before in (line at_next, (start 
 
 emit-requires : tie.Need-emit-out-requires
 emit-requires c κs = (
-  elim c.if-sink.branch [ then-sink w ↦ rw w.r-is w.heading_record-r.ensures.1 | else-sink w ↦ rw w.r-is w.unwritten-r.ensures ],
+  elim c.if-sink.branch [ then-sink w ↦ rw w.r-is w.heading_record-r.ensures.1 | else-sink w ↦ rw (w.r-is ∙ default-record w.default-r.result w.default-r.ensures) (search rules) ],
   omega arith,
 )
 
