@@ -2,7 +2,8 @@ ghost use Rattle.std.specs.Prelude.{◌≡◌};
 ghost use Rattle.lookup.specs.Defaults as spec;
 ghost use Rattle.lookup.specs.Promises.{SourcedFrom};
 
-use crate::lookup::{Answer, lookup, part_of};
+use crate::lookup::{Refusal, lookup, part_of};
+use crate::span::Span;
 use rules::heading::next_heading;
 use text::limit;
 use text::word::is_word;
@@ -10,8 +11,8 @@ use text::word::is_word;
 // An answer, and whose it is: the order text's or the defaults'.  [02 order 13]
 #[derive(Clone, Copy)]
 pub enum Sourced {
-    Order(Answer),
-    Defaults(Answer),
+    Order(Result<Span, Refusal>),
+    Defaults(Result<Span, Refusal>),
 }
 
 // Whether a key is one that is never taken from the defaults.
@@ -23,12 +24,12 @@ fn is_reserved(key: &[u8]) -> bool
 }
 
 // The defaults' own answer, at their first heading line. A text that is too long is not searched for one.
-fn of_defaults(defaults: &[u8], key: &[u8]) -> Answer
+fn of_defaults(defaults: &[u8], key: &[u8]) -> Result<Span, Refusal>
     ensures { result ≡ spec.of_defaults defaults.now key.now }
 {
     let size = defaults.len();
     if limit::TEXT < size {
-        return Answer::TooLong;
+        return Err(Refusal::TooLong);
     }
     lookup(defaults, next_heading(defaults, 0, size), key)
 }
@@ -39,11 +40,11 @@ pub fn lookup_with_defaults(order: &[u8], at: usize, defaults: &[u8], key: &[u8]
     ensures sourced_from { SourcedFrom order.now at defaults.now key.now result }
 {
     let answer = lookup(order, at, key);
-    let Answer::NoKey = answer else {
+    let Err(Refusal::NoKey) = answer else {
         return Sourced::Order(answer);
     };
     if is_reserved(key) {
-        return Sourced::Order(Answer::NoKey);
+        return Sourced::Order(Err(Refusal::NoKey));
     }
     Sourced::Defaults(of_defaults(defaults, key))
 }
