@@ -34,19 +34,24 @@ fn of_defaults(defaults: &[u8], key: &[u8]) -> Result<Span, Refusal>
     lookup(defaults, next_heading(defaults, 0, size), key)
 }
 
+// Whether the defaults are asked for a key after an answer of the order.
+#[tactic(auto, unfolding(crate::specs::Defaults::asks_defaults))]
+fn asks_defaults(answer: Result<Span, Refusal>, key: &[u8]) -> bool
+    ensures { result ≡ spec.asks_defaults answer key.now }
+{
+    matches!(answer, Err(Refusal::NoKey)) && !is_reserved(key)
+}
+
 // Looks a key up in an order and, where its drawer lacks the key, in the defaults, but for `VIN` and `REQUEST`.
 pub fn lookup_with_defaults(order: &[u8], at: usize, defaults: &[u8], key: &[u8]) -> Sourced
     ensures value { result ≡ spec.with_defaults order.now at defaults.now key.now }
     ensures sourced_from { SourcedFrom order.now at defaults.now key.now result }
 {
     let answer = lookup(order, at, key);
-    let Err(Refusal::NoKey) = answer else {
-        return Sourced::Order(answer);
-    };
-    if is_reserved(key) {
-        return Sourced::Order(Err(Refusal::NoKey));
+    if asks_defaults(answer, key) {
+        return Sourced::Defaults(of_defaults(defaults, key));
     }
-    Sourced::Defaults(of_defaults(defaults, key))
+    Sourced::Order(answer)
 }
 
 // The value itself: a part of the order text or of the defaults text.

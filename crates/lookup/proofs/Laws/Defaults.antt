@@ -13,7 +13,7 @@ use Rattle.text.specs.Limits.{text_limit}
 use Rattle.text.specs.Parts.{next_line}
 use Rattle.rules.specs.Headings.{is_heading_up_to}
 use Rattle.rules.proofs.Laws.Headings.{next_line-up_to}
-use Rattle.std.specs.declared.result.Result.TheVariants.{Ok, Err}
+use Rattle.std.specs.declared.result.Result.TheVariants.{Err}
 use Rattle.lookup.specs.declared.lookup.Refusal.TheVariants.{TooLong, NoKey}
 use Rattle.lookup.specs.declared.defaults.Sourced.{Sourced}
 use Rattle.lookup.specs.declared.defaults.Sourced.TheVariants.{Order, Defaults}

@@ -3,7 +3,7 @@
 use mathlib.Core.Path.{◌≡◌, refl, sym, ap, ◌∙◌}
 use mathlib.Core.Bool.{true, false, ◌&&◌, true≢false, false≢true}
 use mathlib.Core.List.{List, [], ◌∷◌}
-use Prim.Native.Nat.{ℕ, zero, suc, ◌+◌, ◌-◌, ◌≤◌, ◌<◌}
+use Prim.Native.Nat.{ℕ, zero, suc, ◌+◌, ◌≤◌, ◌<◌}
 use native.Mathlib.Omega.{arith}
 use native.Mathlib.Nat.{add-zero, add_assoc}
 use lib.ListN.{length, take, drop}
@@ -17,7 +17,6 @@ use Rattle.text.proofs.Basics.{and_first}
 use Rattle.text.proofs.Laws.Lines.{some-lines, body_end-le}
 use Rattle.text.proofs.Laws.LinesIn.{lines_in-drop, size-lines_in}
 use Rattle.rules.specs.Headings.{is_heading}
-use Rattle.rules.specs.Kind
 use Rattle.rules.specs.LineTests.{property_name}
 use Rattle.rules.proofs.Laws.PropertyDrawers.{property_name-blank, HeadingLine, heading_line-some, heading_line-to}
 use Rattle.std.specs.declared.option.Option.TheVariants.{None, Some}

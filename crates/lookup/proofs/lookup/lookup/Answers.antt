@@ -7,7 +7,7 @@ use native.Mathlib.Omega.{arith}
 use Rattle.std.specs.Option.{ok_or}
 use Rattle.std.specs.declared.option.Option.{Option}
 use Rattle.std.specs.declared.option.Option.TheVariants.{None, Some}
-use Rattle.std.specs.declared.result.Result.TheVariants.{Ok, Err}
+use Rattle.std.specs.declared.result.Result.TheVariants.{Err}
 use Rattle.lookup.specs.declared.span.Span.{Span}
 use Rattle.lookup.specs.declared.lookup.Refusal.TheVariants.{NoHeading, NoKey}
 use Rattle.lookup.specs.Lookup.{Answer, no_drawer, with_value, lookup}
