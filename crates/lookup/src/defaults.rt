@@ -47,11 +47,11 @@ pub fn lookup_with_defaults(order: &[u8], at: usize, defaults: &[u8], key: &[u8]
     ensures value { result ≡ spec.with_defaults order.now at defaults.now key.now }
     ensures sourced_from { SourcedFrom order.now at defaults.now key.now result }
 {
-    let answer = lookup(order, at, key);
-    if asks_defaults(answer, key) {
+    let own = lookup(order, at, key);
+    if asks_defaults(own, key) {
         return Sourced::Defaults(of_defaults(defaults, key));
     }
-    Sourced::Order(answer)
+    Sourced::Order(own)
 }
 
 // The value itself: a part of the order text or of the defaults text.

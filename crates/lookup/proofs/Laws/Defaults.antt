@@ -35,15 +35,6 @@ module _ (d k : List ℕ) where
 
 -- ---- whose answer it is
 
-module _ (r : Answer) (k : List ℕ) where
-  pub asks-stands : eqb (number r) Number.no_key ≡ false → asks_defaults r k ≡ false
-  unfolding asks_defaults
-  asks-stands h = rw h
-
-  pub asks-lacking : r ≡ Err NoKey → asks_defaults r k ≡ not (is_reserved k)
-  unfolding asks_defaults
-  asks-lacking h = rw h
-
 module _ (s : List ℕ) (p : ℕ) (d k : List ℕ) where
   pub with_defaults-order : asks_defaults (lookup s p k) k ≡ false → with_defaults s p d k ≡ Order (lookup s p k)
   unfolding with_defaults

@@ -17,12 +17,12 @@ sourced-answer s p d k r h = rw h at (sourced-from s p d k)
 
 pub returns-then-asks_defaults : goal.returns-then-asks_defaults
 returns-then-asks_defaults c =
-    let asks = rw c.lookup-answer.ensures.value at (sym c.asks_defaults.ensures ∙ c.if-asks_defaults.true) in
+    let asks = rw c.lookup-own.ensures.value at (sym c.asks_defaults.ensures ∙ c.if-asks_defaults.true) in
     let e = with_defaults-defaults _ _ c.args.defaults.now _ asks ∙ ap Defaults (sym c.of_defaults.ensures) in
     record { value = sym e; sourced_from = sourced-answer _ _ _ _ _ e }
 
 pub returns : goal.returns
 returns c =
-    let stands = rw c.lookup-answer.ensures.value at (sym c.asks_defaults.ensures ∙ c.if-asks_defaults.false) in
-    let e = with_defaults-order _ _ c.args.defaults.now _ stands ∙ ap Order (sym c.lookup-answer.ensures.value) in
+    let stands = rw c.lookup-own.ensures.value at (sym c.asks_defaults.ensures ∙ c.if-asks_defaults.false) in
+    let e = with_defaults-order _ _ c.args.defaults.now _ stands ∙ ap Order (sym c.lookup-own.ensures.value) in
     record { value = sym e; sourced_from = sourced-answer _ _ _ _ _ e }
