@@ -2,8 +2,7 @@ ghost use Rattle.std.specs.Prelude.{◌≡◌};
 ghost use Rattle.lookup.specs.Defaults as spec;
 ghost use Rattle.lookup.specs.Promises.{SourcedFrom};
 
-use crate::lookup::{Refusal, lookup, part_of};
-use crate::span::Span;
+use crate::lookup::{Answer, Refusal, lookup, part_of};
 use rules::heading::next_heading;
 use text::limit;
 use text::word::is_word;
@@ -11,8 +10,8 @@ use text::word::is_word;
 // An answer, and whose it is: the order text's or the defaults'.  [02 order 13]
 #[derive(Clone, Copy)]
 pub enum Sourced {
-    Order(Result<Span, Refusal>),
-    Defaults(Result<Span, Refusal>),
+    Order(Answer),
+    Defaults(Answer),
 }
 
 // Whether a key is one that is never taken from the defaults.
@@ -24,7 +23,7 @@ fn is_reserved(key: &[u8]) -> bool
 }
 
 // The defaults' own answer, at their first heading line. A text that is too long is not searched for one.
-fn of_defaults(defaults: &[u8], key: &[u8]) -> Result<Span, Refusal>
+fn of_defaults(defaults: &[u8], key: &[u8]) -> Answer
     ensures { result ≡ spec.of_defaults defaults.now key.now }
 {
     let size = defaults.len();
@@ -36,7 +35,7 @@ fn of_defaults(defaults: &[u8], key: &[u8]) -> Result<Span, Refusal>
 
 // Whether the defaults are asked for a key after an answer of the order.
 #[tactic(auto, unfolding(crate::specs::Defaults::asks_defaults))]
-fn asks_defaults(answer: Result<Span, Refusal>, key: &[u8]) -> bool
+fn asks_defaults(answer: Answer, key: &[u8]) -> bool
     ensures { result ≡ spec.asks_defaults answer key.now }
 {
     matches!(answer, Err(Refusal::NoKey)) && !is_reserved(key)

@@ -21,6 +21,9 @@ pub enum Refusal {
     BadKey,
 }
 
+// The answer of a lookup: where the value stands, or why there is none.
+pub type Answer = Result<Span, Refusal>;
+
 impl From<NoDrawer> for Refusal {
     ghost from_gives = { λ why refusal. refusal ≡ spec.no_drawer why };
 
@@ -36,7 +39,7 @@ impl From<NoDrawer> for Refusal {
 
 // Looks a key up in the property drawer of the heading line that starts at a byte. Tries in turn: the text is over 65,536 bytes; the key is
 // bad; no heading line starts there; that heading has no property drawer, with the reason; no line of it has the key.
-pub fn lookup(text: &[u8], at: usize, key: &[u8]) -> Result<Span, Refusal>
+pub fn lookup(text: &[u8], at: usize, key: &[u8]) -> Answer
     ensures value { result ≡ spec.lookup text.now at key.now }
     ensures tied { Tied text.now at key.now result }
 {
@@ -52,7 +55,7 @@ pub fn lookup(text: &[u8], at: usize, key: &[u8]) -> Result<Span, Refusal>
 }
 
 // The part of a text that an answer gives: the value itself, and the empty part at byte 0 where it is a refusal.
-pub fn part_of<'a>(text: &'a [u8], answer: Result<Span, Refusal>) -> &'a [u8]
+pub fn part_of<'a>(text: &'a [u8], answer: Answer) -> &'a [u8]
     requires { Inside text.now answer }
     ensures result_value { result.now ≡ spec.part_of answer text.now }
     ensures ref_ptr_value { result.ref_ptr ≡ spec.place_of answer text.entry.ref_ptr }
