@@ -4,11 +4,10 @@ use Rattle.text.specs.Number
 use Rattle.text.specs.Runs.{word, same}
 use Rattle.text.specs.Parts.{next_line}
 use Rattle.rules.specs.Headings.{is_heading}
-use Rattle.lookup.specs.declared.lookup.Answer.{Answer}
 use Rattle.lookup.specs.declared.defaults.Sourced.{Sourced}
 use Rattle.lookup.specs.declared.defaults.Sourced.TheVariants.{Order, Defaults}
 use Rattle.lookup.specs.Lookup as Lookup
-use Rattle.lookup.specs.Lookup.{lookup, number}
+use Rattle.lookup.specs.Lookup.{Answer, lookup, number}
 
 -- the byte at which a text's first heading line starts; else the text's end, where none starts
 unfoldable pub first_heading : List ℕ → ℕ

@@ -1,6 +1,8 @@
 -- The property drawer of a heading, or why it has none  [01 rule 2, 02 order 2], by the lines from its place to the next heading line.
 use Rattle.std.specs.Prelude.{Bool, true, false, not, ◌&&◌, ◌||◌, List, [], ◌∷◌, ℕ, ◌+◌, ◌-◌, length, take, drop}
 use Rattle.std.proofs.Math.Option.{none, some}
+use Rattle.std.specs.declared.result.Result.{Result}
+use Rattle.std.specs.declared.result.Result.TheVariants.{Ok, Err}
 use Rattle.text.specs.Lines.{Line, size, blank_line, head_line, tail_lines, leading, blanks}
 use Rattle.text.specs.Parts.{lines_in, line_in, next_line}
 use Rattle.dates.specs.Reads.{pick}
@@ -8,8 +10,10 @@ use Rattle.rules.specs.Headings.{is_heading}
 use Rattle.rules.specs.LineTests.{is_planning, is_properties_line, is_end_line, is_node_property}
 use Rattle.rules.specs.Elements.{property_drawer}
 use Rattle.rules.specs.declared.place.Place.TheVariants.{AfterHeading}
-use Rattle.lookup.specs.declared.drawer.Drawer.{Drawer}
-use Rattle.lookup.specs.declared.drawer.Drawer.TheVariants.{Lines, BlankFirst, NotClosed, NotProperty, Missing}
+use Rattle.lookup.specs.declared.span.Span.{Span}
+use Rattle.lookup.specs.declared.drawer.NoDrawer.{NoDrawer}
+use Rattle.lookup.specs.declared.drawer.NoDrawer.TheVariants.{BlankFirst, NotClosed, NotProperty, Missing}
+use Rattle.lookup.specs.Spans.{span}
 
 -- The place is the line after the heading line, which ends at byte p, or its planning line.
 unfoldable pub drawer_place : List ℕ → ℕ → ℕ
@@ -53,18 +57,18 @@ unfolding first_other
 first_other_in p ls = first_other (p + length (head_line ls)) (before_end (tail_lines ls))
 
 -- why there is none, of the lines from the place on, which starts at byte p; else 5
-unfoldable pub why_none : ℕ → List Line → Drawer
+unfoldable pub why_none : ℕ → List Line → NoDrawer
 why_none p ls =
     pick (is_blank_first ls) BlankFirst
     (pick (is_not_closed ls) NotClosed
     (pick (is_not_properties ls) (NotProperty (first_other_in p ls)) Missing))
 
 -- rule 2's drawer, from the opener's end to the closer; either place allows one
-unfoldable pub drawer_in : ℕ → List Line → Drawer
+unfoldable pub drawer_in : ℕ → List Line → Result Span NoDrawer
 drawer_in p ls =
     elim (property_drawer AfterHeading ls)
-    [ none ↦ why_none p ls | some f ↦ Lines (p + length (head_line ls)) (p + size (take (f.own - 1) ls)) ]
+    [ none ↦ Err (why_none p ls) | some f ↦ Ok (span (p + length (head_line ls)) (p + size (take (f.own - 1) ls))) ]
 
 -- the drawer of the heading whose line ends at byte p
-unfoldable pub drawer_after : List ℕ → ℕ → Drawer
+unfoldable pub drawer_after : List ℕ → ℕ → Result Span NoDrawer
 drawer_after s p = drawer_in (drawer_place s p) (drawer_lines s p)

@@ -1,23 +1,24 @@
 -- Two texts in one: what is looked up in each is looked up in both together  [02 orders 6 and 14].
 use Rattle.std.specs.Prelude.{◌≡◌, true, false, List, [], ◌∷◌, ◌++◌, map, ℕ, ◌+◌, ◌<◌, ◌≤◌, length}
+use Rattle.std.specs.declared.result.Result.TheVariants.{Ok, Err}
 use Rattle.text.specs.Limits.{text_limit}
 use Rattle.text.specs.Lines.{Line, lines, is_ended, head_line}
 use Rattle.rules.specs.Headings.{is_heading}
-use Rattle.lookup.specs.declared.lookup.Answer.{Answer}
-use Rattle.lookup.specs.declared.lookup.Answer.TheVariants.{Found, TooLong, NoHeading, BlankFirst, NotClosed, NotProperty, NoDrawer, NoKey, BadKey}
-use Rattle.lookup.specs.Lookup.{lookup}
+use Rattle.lookup.specs.declared.lookup.Refusal.TheVariants.{TooLong, NoHeading, BlankFirst, NotClosed, NotProperty, NoDrawer, NoKey, BadKey}
+use Rattle.lookup.specs.Spans.{span}
+use Rattle.lookup.specs.Lookup.{Answer, lookup}
 
 -- an answer moved by n bytes; a refusal's empty part stays at byte 0
 unfoldable pub shift : ℕ → Answer → Answer
-shift n (Found a e) = Found (n + a) (n + e)
-shift n TooLong = TooLong
-shift n NoHeading = NoHeading
-shift n BlankFirst = BlankFirst
-shift n NotClosed = NotClosed
-shift n (NotProperty q) = NotProperty (n + q)
-shift n NoDrawer = NoDrawer
-shift n NoKey = NoKey
-shift n BadKey = BadKey
+shift n (Ok v) = Ok (span (n + v.start) (n + v.end))
+shift n (Err TooLong) = Err TooLong
+shift n (Err NoHeading) = Err NoHeading
+shift n (Err BlankFirst) = Err BlankFirst
+shift n (Err NotClosed) = Err NotClosed
+shift n (Err (NotProperty q)) = Err (NotProperty (n + q))
+shift n (Err NoDrawer) = Err NoDrawer
+shift n (Err NoKey) = Err NoKey
+shift n (Err BadKey) = Err BadKey
 
 -- where the heading lines start, of some lines from byte p on, and of a text
 unfoldable pub headings_from : ℕ → List Line → List ℕ

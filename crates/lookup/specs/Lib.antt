@@ -1,3 +1,4 @@
+pub mod Spans
 pub mod Drawers
 pub mod Stages
 pub mod Lookup

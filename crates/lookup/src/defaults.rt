@@ -2,7 +2,7 @@ ghost use Rattle.std.specs.Prelude.{◌≡◌};
 ghost use Rattle.lookup.specs.Defaults as spec;
 ghost use Rattle.lookup.specs.Promises.{SourcedFrom};
 
-use crate::lookup::{Answer, lookup, part_of};
+use crate::lookup::{Answer, Refusal, lookup, part_of};
 use rules::heading::next_heading;
 use text::limit;
 use text::word::is_word;
@@ -28,9 +28,17 @@ fn of_defaults(defaults: &[u8], key: &[u8]) -> Answer
 {
     let size = defaults.len();
     if limit::TEXT < size {
-        return Answer::TooLong;
+        return Err(Refusal::TooLong);
     }
     lookup(defaults, next_heading(defaults, 0, size), key)
+}
+
+// Whether the defaults are asked for a key after an answer of the order.
+#[tactic(auto, unfolding(crate::specs::Defaults::asks_defaults))]
+fn asks_defaults(answer: Answer, key: &[u8]) -> bool
+    ensures { result ≡ spec.asks_defaults answer key.now }
+{
+    matches!(answer, Err(Refusal::NoKey)) && !is_reserved(key)
 }
 
 // Looks a key up in an order and, where its drawer lacks the key, in the defaults, but for `VIN` and `REQUEST`.
@@ -38,14 +46,11 @@ pub fn lookup_with_defaults(order: &[u8], at: usize, defaults: &[u8], key: &[u8]
     ensures value { result ≡ spec.with_defaults order.now at defaults.now key.now }
     ensures sourced_from { SourcedFrom order.now at defaults.now key.now result }
 {
-    let answer = lookup(order, at, key);
-    let Answer::NoKey = answer else {
-        return Sourced::Order(answer);
-    };
-    if is_reserved(key) {
-        return Sourced::Order(Answer::NoKey);
+    let own = lookup(order, at, key);
+    if asks_defaults(own, key) {
+        return Sourced::Defaults(of_defaults(defaults, key));
     }
-    Sourced::Defaults(of_defaults(defaults, key))
+    Sourced::Order(own)
 }
 
 // The value itself: a part of the order text or of the defaults text.

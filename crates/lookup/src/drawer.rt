@@ -3,8 +3,9 @@ ghost use Rattle.text.specs.Parts.{lines_in, line_in, first_line};
 ghost use Rattle.rules.specs.LineTests.{is_properties_line};
 ghost use Rattle.dates.specs.Reads.{pick};
 ghost use Rattle.lookup.specs.Drawers.{has_end, before_end, first_other, drawer_in, drawer_after};
-ghost use Rattle.lookup.specs.declared.drawer.Drawer.TheVariants.{NotClosed, NotProperty};
+ghost use Rattle.lookup.specs.declared.drawer.NoDrawer.TheVariants.{NotClosed, NotProperty};
 
+use crate::span::Span;
 use rules::closer::{Closer, find_end};
 use rules::heading::next_heading;
 use rules::planning::is_planning;
@@ -12,11 +13,9 @@ use rules::property::{Property, find_properties_end, property_at};
 use text::line::{first_line, line_at};
 use text::word::is_word;
 
-// The lines of a property drawer, from a byte to a byte; or why there is none, for `NotProperty` with the start of the first line that is no
-// node property.  [02 order 2]
+// Why there is no property drawer, for `NotProperty` with the start of the first line that is no node property.  [02 order 2]
 #[derive(Clone, Copy)]
-pub enum Drawer {
-    Lines(usize, usize),
+pub enum NoDrawer {
     BlankFirst,
     NotClosed,
     NotProperty(usize),
@@ -53,7 +52,7 @@ fn first_other(text: &[u8], from: usize, to: usize) -> usize
 }
 
 // Why the lines after an opener are no property drawer's: no `:END:` line follows, or a line before the first one is no node property.
-fn why_none(text: &[u8], from: usize, to: usize) -> Drawer
+fn why_none(text: &[u8], from: usize, to: usize) -> NoDrawer
     requires { (from ≤ to) × (to ≤ length text.now) }
     ensures { let ls = lines_in text.now from to in result ≡ pick (has_end ls) (NotProperty (first_other from (before_end ls))) NotClosed }
 {
@@ -65,25 +64,26 @@ fn why_none(text: &[u8], from: usize, to: usize) -> Drawer
         before: _,
     } = closer
     else {
-        return Drawer::NotClosed;
+        return NoDrawer::NotClosed;
     };
-    Drawer::NotProperty(first_other(text, from, start))
+    NoDrawer::NotProperty(first_other(text, from, start))
 }
 
-// The property drawer that stands at a byte, its place, in a section that ends at a byte; or why there is none.  [01 rule 2, 02 order 2]
-fn find_drawer_at(text: &[u8], at: usize, to: usize) -> Drawer
+// The lines of the property drawer that stands at a byte, its place, in a section that ends at a byte; or why there is none.
+// [01 rule 2, 02 order 2]
+fn find_drawer_at(text: &[u8], at: usize, to: usize) -> Result<Span, NoDrawer>
     requires { (at ≤ to) × (to ≤ length text.now) }
     ensures { result ≡ drawer_in at (lines_in text.now at to) }
 {
     if to <= at {
-        return Drawer::Missing;
+        return Err(NoDrawer::Missing);
     }
     let opener = line_at(text, at, to);
     if !is_word(text, opener.from, opener.to, b":properties:") {
         if opens_after_blanks(text, at, to) {
-            return Drawer::BlankFirst;
+            return Err(NoDrawer::BlankFirst);
         }
-        return Drawer::Missing;
+        return Err(NoDrawer::Missing);
     }
     let inner = opener.end;
     let Closer::At {
@@ -92,19 +92,22 @@ fn find_drawer_at(text: &[u8], at: usize, to: usize) -> Drawer
         before: _,
     } = find_properties_end(text, inner, to)
     else {
-        return why_none(text, inner, to);
+        return Err(why_none(text, inner, to));
     };
-    Drawer::Lines(inner, start)
+    Ok(Span {
+        start: inner,
+        end: start,
+    })
 }
 
-// The property drawer of the heading whose line ends at a byte: right after that line or its planning line.  [01 rule 2]
-pub fn find_drawer(text: &[u8], from: usize) -> Drawer
+// The lines of the property drawer of the heading whose line ends at a byte: right after that line or its planning line.  [01 rule 2]
+pub fn find_drawer(text: &[u8], from: usize) -> Result<Span, NoDrawer>
     requires { from ≤ length text.now }
     ensures { result ≡ drawer_after text.now from }
 {
     let to = next_heading(text, from, text.len());
     if to <= from {
-        return Drawer::Missing;
+        return Err(NoDrawer::Missing);
     }
     let line = line_at(text, from, to);
     if is_planning(text, line, to) {

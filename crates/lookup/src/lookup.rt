@@ -2,16 +2,15 @@ ghost use Rattle.std.specs.Prelude.{◌≡◌};
 ghost use Rattle.lookup.specs.Lookup as spec;
 ghost use Rattle.lookup.specs.Lookup.{Inside};
 ghost use Rattle.lookup.specs.Promises.{Tied};
-ghost use Rattle.lookup.specs.declared.lookup.Answer.TheVariants.{NoDrawer};
 
-use crate::drawer::{Drawer, find_drawer};
-use crate::stages::{Heading, Value, find_heading, find_value, is_bad_key};
+use crate::drawer::{NoDrawer, find_drawer};
+use crate::span::Span;
+use crate::stages::{find_heading, find_value, is_bad_key};
 use text::limit;
 
-// The answer of a lookup: with the value's two ends, and of `NotProperty` with the line's start.  [01 "Numbers of an answer", 02 order 2]
+// Why a lookup gives no value, for `NotProperty` with the line's start.  [01 "Numbers of an answer", 02 order 2]
 #[derive(Clone, Copy)]
-pub enum Answer {
-    Found(usize, usize),
+pub enum Refusal {
     TooLong,
     NoHeading,
     BlankFirst,
@@ -22,15 +21,19 @@ pub enum Answer {
     BadKey,
 }
 
-// The refusal of a heading that has no property drawer.
-fn no_drawer(drawer: Drawer) -> Answer
-    ensures { result ≡ spec.with_drawer drawer (λ a e. NoDrawer) }
-{
-    match drawer {
-        Drawer::BlankFirst => Answer::BlankFirst,
-        Drawer::NotClosed => Answer::NotClosed,
-        Drawer::NotProperty(line) => Answer::NotProperty(line),
-        _ => Answer::NoDrawer,
+// The answer of a lookup: where the value stands, or why there is none.
+pub type Answer = Result<Span, Refusal>;
+
+impl From<NoDrawer> for Refusal {
+    ghost from_gives = { λ why refusal. refusal ≡ spec.no_drawer why };
+
+    fn from(why: NoDrawer) -> Refusal {
+        match why {
+            NoDrawer::BlankFirst => Refusal::BlankFirst,
+            NoDrawer::NotClosed => Refusal::NotClosed,
+            NoDrawer::NotProperty(line) => Refusal::NotProperty(line),
+            NoDrawer::Missing => Refusal::NoDrawer,
+        }
     }
 }
 
@@ -41,22 +44,14 @@ pub fn lookup(text: &[u8], at: usize, key: &[u8]) -> Answer
     ensures tied { Tied text.now at key.now result }
 {
     if limit::TEXT < text.len() {
-        return Answer::TooLong;
+        return Err(Refusal::TooLong);
     }
     if is_bad_key(key) {
-        return Answer::BadKey;
+        return Err(Refusal::BadKey);
     }
-    let Heading::Before(inner) = find_heading(text, at) else {
-        return Answer::NoHeading;
-    };
-    let drawer = find_drawer(text, inner);
-    let Drawer::Lines(from, to) = drawer else {
-        return no_drawer(drawer);
-    };
-    let Value::Part(start, end) = find_value(text, from, to, key) else {
-        return Answer::NoKey;
-    };
-    Answer::Found(start, end)
+    let inner = find_heading(text, at).ok_or(Refusal::NoHeading)?;
+    let lines = find_drawer(text, inner)?;
+    find_value(text, lines.start, lines.end, key).ok_or(Refusal::NoKey)
 }
 
 // The part of a text that an answer gives: the value itself, and the empty part at byte 0 where it is a refusal.
@@ -65,7 +60,7 @@ pub fn part_of<'a>(text: &'a [u8], answer: Answer) -> &'a [u8]
     ensures result_value { result.now ≡ spec.part_of answer text.now }
     ensures ref_ptr_value { result.ref_ptr ≡ spec.place_of answer text.entry.ref_ptr }
 {
-    let Answer::Found(start, end) = answer else {
+    let Ok(Span { start, end }) = answer else {
         return &text[0..0];
     };
     &text[start..end]

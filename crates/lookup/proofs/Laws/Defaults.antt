@@ -13,18 +13,18 @@ use Rattle.text.specs.Limits.{text_limit}
 use Rattle.text.specs.Parts.{next_line}
 use Rattle.rules.specs.Headings.{is_heading_up_to}
 use Rattle.rules.proofs.Laws.Headings.{next_line-up_to}
-use Rattle.lookup.specs.declared.lookup.Answer.{Answer}
-use Rattle.lookup.specs.declared.lookup.Answer.TheVariants.{TooLong, NoKey}
+use Rattle.std.specs.declared.result.Result.TheVariants.{Err}
+use Rattle.lookup.specs.declared.lookup.Refusal.TheVariants.{TooLong, NoKey}
 use Rattle.lookup.specs.declared.defaults.Sourced.{Sourced}
 use Rattle.lookup.specs.declared.defaults.Sourced.TheVariants.{Order, Defaults}
-use Rattle.lookup.specs.Lookup.{lookup, number, Inside}
+use Rattle.lookup.specs.Lookup.{Answer, lookup, number, Inside}
 use Rattle.lookup.specs.Defaults.{first_heading, of_defaults, is_reserved, asks_defaults, with_defaults}
 use Rattle.lookup.proofs.Laws.Lookup.{lookup-long, lookup-inside}
 
 -- ---- the defaults' own answer
 
 module _ (d k : List ℕ) where
-  pub of_defaults-long : text_limit < length d → of_defaults d k ≡ TooLong
+  pub of_defaults-long : text_limit < length d → of_defaults d k ≡ Err TooLong
   unfolding of_defaults
   of_defaults-long h = lookup-long d (first_heading d) k h
 
@@ -34,15 +34,6 @@ module _ (d k : List ℕ) where
   of_defaults-at q h = rw (h, next_line-up_to d (length d) 0 (omega arith) (omega arith))
 
 -- ---- whose answer it is
-
-module _ (r : Answer) (k : List ℕ) where
-  pub asks-stands : eqb (number r) Number.no_key ≡ false → asks_defaults r k ≡ false
-  unfolding asks_defaults
-  asks-stands h = rw h
-
-  pub asks-lacking : r ≡ NoKey → asks_defaults r k ≡ not (is_reserved k)
-  unfolding asks_defaults
-  asks-lacking h = rw h
 
 module _ (s : List ℕ) (p : ℕ) (d k : List ℕ) where
   pub with_defaults-order : asks_defaults (lookup s p k) k ≡ false → with_defaults s p d k ≡ Order (lookup s p k)

@@ -1,7 +1,7 @@
 -- Laws of a heading's property drawer, and of the reasons why it has none: which of them holds follows from the opener, the closer and the
 -- lines between.
 -- Assumes nothing.
-use mathlib.Core.Path.{◌≡◌, refl, sym, ◌∙◌}
+use mathlib.Core.Path.{◌≡◌, refl, sym, ap, ◌∙◌}
 use mathlib.Core.Bool.{Bool, true, false, not, ◌&&◌, true≢false, false≢true}
 use mathlib.Core.List.{List, [], ◌∷◌}
 use mathlib.Core.Option.{none, some}
@@ -26,8 +26,12 @@ use Rattle.rules.specs.Places.{place_at, allows_properties}
 use Rattle.rules.proofs.Basics.{options}
 use Rattle.rules.proofs.Laws.PropertyDrawers.{properties-nonblank, line_after, DrawerPlace, under-heading, under-planning}
 use Rattle.dates.specs.Reads.{pick}
-use Rattle.lookup.specs.declared.drawer.Drawer.{Drawer}
-use Rattle.lookup.specs.declared.drawer.Drawer.TheVariants.{Lines, BlankFirst, NotClosed, NotProperty, Missing}
+use Rattle.std.specs.declared.result.Result.{Result}
+use Rattle.std.specs.declared.result.Result.TheVariants.{Ok, Err}
+use Rattle.lookup.specs.declared.span.Span.{Span}
+use Rattle.lookup.specs.declared.drawer.NoDrawer.{NoDrawer}
+use Rattle.lookup.specs.declared.drawer.NoDrawer.TheVariants.{BlankFirst, NotClosed, NotProperty, Missing}
+use Rattle.lookup.specs.Spans.{span}
 use Rattle.lookup.specs.Drawers.{drawer_place, drawer_lines, is_blank_first, has_end, before_end, has_other, is_not_closed, is_not_properties}
 use Rattle.lookup.specs.Drawers.{first_other_in, why_none, drawer_in, drawer_after}
 use Rattle.lookup.specs.Promises.{NoReason, outcomes, how_many, at_most_one, Exclusive}
@@ -164,47 +168,40 @@ property_drawer-cases ls f g = cases (is_properties_line (head_line ls))
 -- ---- what stands in the place
 
 module _ (p : ℕ) (ls : List Line) where
-  pub drawer_in-some : (f : Found) → property_drawer AfterHeading ls ≡ some f → drawer_in p ls ≡ Lines (p + length (head_line ls)) (p + size (take (f.own - 1) ls))
+  pub drawer_in-some : (f : Found) → property_drawer AfterHeading ls ≡ some f → drawer_in p ls ≡ Ok (span (p + length (head_line ls)) (p + size (take (f.own - 1) ls)))
   unfolding drawer_in
   drawer_in-some f h = rw (h, drawer_in)
 
-  pub drawer_in-none : property_drawer AfterHeading ls ≡ none → drawer_in p ls ≡ why_none p ls
+  pub drawer_in-none : property_drawer AfterHeading ls ≡ none → drawer_in p ls ≡ Err (why_none p ls)
   unfolding drawer_in
   drawer_in-none h = rw (h, drawer_in)
 
   pub drawer_in-opened : is_properties_line (head_line ls) ≡ true → properties_before (tail_lines ls) ≡ none
-      → drawer_in p ls ≡ pick (has_end (tail_lines ls)) (NotProperty (first_other_in p ls)) NotClosed
-  drawer_in-opened o h = drawer_in-none (opened-none ls o h) ∙ opened-why ls p o h
+      → drawer_in p ls ≡ Err (pick (has_end (tail_lines ls)) (NotProperty (first_other_in p ls)) NotClosed)
+  drawer_in-opened o h = drawer_in-none (opened-none ls o h) ∙ ap Err (opened-why ls p o h)
 
   -- each reason settles it
-  pub drawer_in-blank_first : is_blank_first ls ≡ true → drawer_in p ls ≡ BlankFirst
+  pub drawer_in-blank_first : is_blank_first ls ≡ true → drawer_in p ls ≡ Err BlankFirst
   unfolding why_none
   drawer_in-blank_first h = cases (is_properties_line (head_line ls))
       (λ o. absurd (false≢true (sym (opened-blank ls o) ∙ h)))
       (λ o. drawer_in-none (other-drawer ls o) ∙ rw h)
 
-  pub drawer_in-not_closed : is_not_closed ls ≡ true → drawer_in p ls ≡ NotClosed
+  pub drawer_in-not_closed : is_not_closed ls ≡ true → drawer_in p ls ≡ Err NotClosed
   drawer_in-not_closed h = let n = not-closed ls h in drawer_in-opened n.0 n.2 ∙ rw n.1
 
-  pub drawer_in-not_properties : is_not_properties ls ≡ true → drawer_in p ls ≡ NotProperty (first_other_in p ls)
+  pub drawer_in-not_properties : is_not_properties ls ≡ true → drawer_in p ls ≡ Err (NotProperty (first_other_in p ls))
   drawer_in-not_properties h = let n = not-properties ls h in drawer_in-opened n.0 n.2 ∙ rw n.1
 
-  pub drawer_in-missing : property_drawer AfterHeading ls ≡ none → NoReason ls → drawer_in p ls ≡ Missing
+  pub drawer_in-missing : property_drawer AfterHeading ls ≡ none → NoReason ls → drawer_in p ls ≡ Err Missing
   unfolding why_none
   drawer_in-missing h n = drawer_in-none h ∙ rw (n.blank_first, n.not_closed, n.not_properties)
 
-  pub drawer_in-other : is_properties_line (head_line ls) ≡ false → is_blank_first ls ≡ false → drawer_in p ls ≡ Missing
+  pub drawer_in-other : is_properties_line (head_line ls) ≡ false → is_blank_first ls ≡ false → drawer_in p ls ≡ Err Missing
   drawer_in-other o h =
       drawer_in-missing (other-drawer ls o) (record { blank_first = h; not_closed = other-closed ls o; not_properties = other-properties ls o })
 
-  pub why_none-lines : (a z : ℕ) → why_none p ls ≡ Lines a z → ⊥
-  unfolding why_none
-  why_none-lines a z h = let n : ◌≡◌ {A = ℕ} 0 1 = cases (is_blank_first ls) (λ x. let g = rw x at h in cc)
-      (λ x. cases (is_not_closed ls) (λ y. let g = rw (x, y) at h in cc)
-      (λ y. cases (is_not_properties ls) (λ w. let g = rw (x, y, w) at h in cc) (λ w. let g = rw (x, y, w) at h in cc))) in
-      omega arith
-
-pub drawer_in-nil : (p : ℕ) → drawer_in p [] ≡ Missing
+pub drawer_in-nil : (p : ℕ) → drawer_in p [] ≡ Err Missing
 unfolding is_properties_line is_blank_first blank_line blanks leading head_line all same body word after_run trim_end
 drawer_in-nil p = drawer_in-other p [] refl refl
 
@@ -212,14 +209,13 @@ module _ (s : List ℕ) (p e : ℕ) where
   abbrev ls : List Line
   ls = lines_in s p e
 
-  drawer_in-order : p ≤ e → e ≤ length s → (a z : ℕ) → drawer_in p ls ≡ Lines a z → (a ≤ z) × (z ≤ e)
-  drawer_in-order h i a z j =
+  drawer_in-order : p ≤ e → e ≤ length s → (d : Span) → drawer_in p ls ≡ Ok d → (d.start ≤ d.end) × (d.end ≤ e)
+  drawer_in-order h i d j =
       property_drawer-cases ls
-      (λ k. absurd (why_none-lines p ls a z (sym (drawer_in-none p ls k) ∙ j)))
-      (λ n k. let d = drawer_in-some p ls (found Kind.property_drawer (n + 2) 0) k in
-      let from : a ≡ p + length (head_line ls) = cc in
-      let to : z ≡ p + size (take (n + 2 - 1) ls) = cc in
-      omega (arith, size-head_line ls, size-take-mono 1 (n + 2 - 1) ls (omega arith), within-lines_in s p e h i (n + 2 - 1)))
+      (λ k. let n = drawer_in-none p ls k in absurd (let z : ◌≡◌ {A = ℕ} 0 1 = cc in omega arith))
+      (λ n k. let w = drawer_in-some p ls (found Kind.property_drawer (n + 2) 0) k in
+      let is : d ≡ span (p + length (head_line ls)) (p + size (take (n + 2 - 1) ls)) = cc in
+      rw is (omega (arith, size-head_line ls, size-take-mono 1 (n + 2 - 1) ls (omega arith), within-lines_in s p e h i (n + 2 - 1))))
 
 -- ---- after a heading line
 
@@ -257,13 +253,13 @@ module _ (s : List ℕ) (p : ℕ) where
     after-planning = rw (place-planning, lines-planning)
 
   -- what stands in the place
-  pub drawer_after-is : (x : Drawer) → drawer_in (drawer_place s p) (drawer_lines s p) ≡ x → drawer_after s p ≡ x
+  pub drawer_after-is : (x : Result Span NoDrawer) → drawer_in (drawer_place s p) (drawer_lines s p) ≡ x → drawer_after s p ≡ x
   unfolding drawer_after
   drawer_after-is x h = h
 
   -- in its place b
   pub drawer_after-some : (b : ℕ) (f : Found) → DrawerPlace s p b → property_drawer (place_at s b) (lines_in s b end) ≡ some f
-      → drawer_after s p ≡ Lines (b + length (head_line (lines_in s b end))) (b + size (take (f.own - 1) (lines_in s b end)))
+      → drawer_after s p ≡ Ok (span (b + length (head_line (lines_in s b end))) (b + size (take (f.own - 1) (lines_in s b end))))
   drawer_after-some b f (under-heading h i j) k = rw i (after-heading h ∙ drawer_in-some p (lines_in s p end) f (rw (j, i) at k))
   drawer_after-some b f (under-planning h i j) k =
       rw i (after-planning h ∙ drawer_in-some (next h) (lines_in s (next h) end) f (sym (either-place (lines_in s (next h) end)) ∙ rw (j, i) at k))
@@ -277,11 +273,11 @@ module _ (s : List ℕ) (p : ℕ) where
       (λ i. x (rw (lines-planning h) i)) (λ f i. z f h (either-place (lines_in s (next h) end) ∙ i)))
       (λ h. options (property_drawer AfterHeading (lines_in s p end)) (λ i. x (rw (lines-heading h) i)) (λ f i. y f h i))
 
-  pub drawer_after-order : p ≤ length s → (a z : ℕ) → drawer_after s p ≡ Lines a z → (a ≤ z) × (z ≤ length s)
-  drawer_after-order h a z i =
+  pub drawer_after-order : p ≤ length s → (d : Span) → drawer_after s p ≡ Ok d → (d.start ≤ d.end) × (d.end ≤ length s)
+  drawer_after-order h d i =
       let from = next_line-from s is_heading p in
       let to = next_line-to s is_heading p h in
-      let o : (a ≤ z) × (z ≤ end) = cases (is_planning (line_after s p))
-      (λ j. drawer_in-order s (next j) end (line_in-to s p end from to) to a z (sym (after-planning j) ∙ i))
-      (λ j. drawer_in-order s p end from to a z (sym (after-heading j) ∙ i)) in
+      let o : (d.start ≤ d.end) × (d.end ≤ end) = cases (is_planning (line_after s p))
+      (λ j. drawer_in-order s (next j) end (line_in-to s p end from to) to d (sym (after-planning j) ∙ i))
+      (λ j. drawer_in-order s p end from to d (sym (after-heading j) ∙ i)) in
       omega arith

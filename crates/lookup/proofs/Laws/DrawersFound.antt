@@ -37,8 +37,12 @@ use Rattle.rules.proofs.Laws.Findings.{between}
 use Rattle.rules.proofs.Laws.Properties.{properties_end, property_drawer-closer}
 use Rattle.rules.proofs.Laws.PropertyDrawers.{line_after}
 use Rattle.dates.specs.Reads.{pick}
-use Rattle.lookup.specs.declared.drawer.Drawer.{Drawer}
-use Rattle.lookup.specs.declared.drawer.Drawer.TheVariants.{Lines, BlankFirst, NotClosed, NotProperty, Missing}
+use Rattle.std.specs.declared.result.Result.{Result}
+use Rattle.std.specs.declared.result.Result.TheVariants.{Ok, Err}
+use Rattle.lookup.specs.declared.span.Span.{Span}
+use Rattle.lookup.specs.declared.drawer.NoDrawer.{NoDrawer}
+use Rattle.lookup.specs.declared.drawer.NoDrawer.TheVariants.{BlankFirst, NotClosed, NotProperty, Missing}
+use Rattle.lookup.specs.Spans.{span}
 use Rattle.lookup.specs.Drawers.{is_blank_first, has_end, before_end, first_other, first_other_in, why_none, drawer_in, drawer_after}
 use Rattle.lookup.proofs.Laws.Drawers.{other-blank, property_drawer-cases, drawer_in-some, drawer_in-none, drawer_in-opened, drawer_in-blank_first}
 use Rattle.lookup.proofs.Laws.Drawers.{drawer_in-other, drawer_in-nil, after-heading, after-planning}
@@ -68,7 +72,7 @@ module _ (s : List ℕ) (p e : ℕ) where
   after = lines_in s p e
 
   -- why those lines are no property drawer's
-  abbrev why : Drawer
+  abbrev why : NoDrawer
   why = pick (has_end after) (NotProperty (first_other p (before_end after))) NotClosed
 
   pub why-open : Nothing ≡ closer_in (word ":end:") s p e → NotClosed ≡ why
@@ -120,9 +124,9 @@ module _ (s : List ℕ) (p e q : ℕ) (i : q ≡ first_line s p e) where
 -- ---- the property drawer in its place
 
 -- the lines of what a rule finds, or why it fails
-abbrev pub lines_of : Rule → Drawer → Drawer
-lines_of (Holds x) w = Lines x.from x.to
-lines_of Fails w = w
+abbrev pub lines_of : Rule → NoDrawer → Result Span NoDrawer
+lines_of (Holds x) w = Ok (span x.from x.to)
+lines_of Fails w = Err w
 
 module _ (s : List ℕ) (p e : ℕ) where
   abbrev ls : List Line
@@ -135,7 +139,7 @@ module _ (s : List ℕ) (p e : ℕ) where
       (λ h. rw h (sym (drawer_in-none p ls h)))
       (λ n h. rw h (sym (drawer_in-some p ls (found Kind.property_drawer (n + 2) 0) h)))
 
-  pub drawer-end : e ≤ p → Missing ≡ drawer_in p ls
+  pub drawer-end : e ≤ p → Err Missing ≡ drawer_in p ls
   drawer-end h = rw (lines_in-nil s p e h) (sym (drawer_in-nil p))
 
   first-nonblank : head_line (drop (blanks ls) ls) ≡ line_in s (first_line s p e) e
@@ -162,10 +166,10 @@ module _ (s : List ℕ) (p e : ℕ) where
       blank-first : is_blank_first ls ≡ is_properties_line (line_in s (first_line s p e) e)
       blank-first = other-blank ls (opens ∙ j) ∙ ap is_properties_line first-nonblank
 
-      pub drawer-blank_first : is_properties_line (line_in s (first_line s p e) e) ≡ true → BlankFirst ≡ drawer_in p ls
+      pub drawer-blank_first : is_properties_line (line_in s (first_line s p e) e) ≡ true → Err BlankFirst ≡ drawer_in p ls
       drawer-blank_first k = sym (drawer_in-blank_first p ls (blank-first ∙ k))
 
-      pub drawer-missing : is_properties_line (line_in s (first_line s p e) e) ≡ false → Missing ≡ drawer_in p ls
+      pub drawer-missing : is_properties_line (line_in s (first_line s p e) e) ≡ false → Err Missing ≡ drawer_in p ls
       drawer-missing k = sym (drawer_in-other p ls (opens ∙ j) (blank-first ∙ k))
 
     module _ (j : same text (word ":properties:") ≡ true) where
@@ -177,10 +181,10 @@ module _ (s : List ℕ) (p e : ℕ) where
           (rw from_start at (property_drawer-closer s l e opener AfterHeading (is_properties_line-part s l e opener ∙ j) c k))
           ∙ drawer_in-rule
 
-      pub drawer-open : Nothing ≡ properties_end s l.end e → (d : Drawer) → d ≡ why s l.end e → d ≡ drawer_in p ls
+      pub drawer-open : Nothing ≡ properties_end s l.end e → (d : NoDrawer) → d ≡ why s l.end e → Err d ≡ drawer_in p ls
       unfolding closer_at first_other_in line_in
       drawer-open k d m = options (properties_before (lines_in s l.end e))
-          (λ n. m ∙ sym (drawer_in-opened p ls (opens ∙ j) (rw (rw from_start at (line_of-tail s l e opener)) n)
+          (λ n. ap Err m ∙ sym (drawer_in-opened p ls (opens ∙ j) (rw (rw from_start at (line_of-tail s l e opener)) n)
           ∙ rw (rw from_start at (line_of-tail s l e opener), line_of-end s l e opener, from_start)))
           (λ n x. let y = rw x at k in absurd (let z : ◌≡◌ {A = ℕ} 0 1 = cc in omega arith))
 
@@ -194,7 +198,7 @@ module _ (s : List ℕ) (p : ℕ) (h : p ≤ length s) (e : ℕ) (i : e ≡ next
   pub section-order : (p ≤ e) × (e ≤ length s)
   section-order = rw section-end (next_line-from s is_heading p, next_line-to s is_heading p h)
 
-  pub drawer_after-end : e ≤ p → Missing ≡ drawer_after s p
+  pub drawer_after-end : e ≤ p → Err Missing ≡ drawer_after s p
   drawer_after-end = rw section-end (λ j. cases (is_planning (line_after s p))
       (λ k. drawer-end s (p + length (line_after s p)) (next_line is_heading s p) (omega arith) ∙ sym (after-planning s p k))
       (λ k. drawer-end s p (next_line is_heading s p) j ∙ sym (after-heading s p k)))

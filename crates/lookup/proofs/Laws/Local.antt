@@ -24,12 +24,14 @@ use Rattle.rules.specs.Elements.{found, properties_before}
 use Rattle.rules.proofs.Basics.{options}
 use Rattle.rules.proofs.Laws.PropertyDrawers.{line_after}
 use Rattle.dates.specs.Reads.{pick}
-use Rattle.lookup.specs.declared.drawer.Drawer.{Drawer}
-use Rattle.lookup.specs.declared.lookup.Answer.{Answer}
-use Rattle.lookup.specs.declared.lookup.Answer.TheVariants.{Found, TooLong, NoHeading, BlankFirst, NotClosed, NotProperty, NoDrawer, NoKey, BadKey}
+use Rattle.std.specs.declared.result.Result.{Result}
+use Rattle.std.specs.declared.result.Result.TheVariants.{Ok, Err}
+use Rattle.lookup.specs.declared.span.Span.{Span}
+use Rattle.lookup.specs.declared.drawer.NoDrawer.{NoDrawer as Undrawn}
+use Rattle.lookup.specs.declared.lookup.Refusal.TheVariants.{TooLong, NoHeading, BlankFirst, NotClosed, NotProperty, NoDrawer, NoKey, BadKey}
 use Rattle.lookup.specs.Drawers.{drawer_after, drawer_in, has_end, before_end, has_other, first_other, first_other_in}
 use Rattle.lookup.specs.Stages.{is_bad_key, value_in}
-use Rattle.lookup.specs.Lookup.{lookup, with_drawer, with_value, number, part_of}
+use Rattle.lookup.specs.Lookup.{Answer, lookup, with_drawer, with_value, number, part_of}
 use Rattle.lookup.specs.Joined.{shift}
 use Rattle.lookup.specs.Promises.{Tried}
 use Rattle.lookup.proofs.Laws.Drawers.{before-some, before-none, other-blank, opened-drawer, drawer_in-some, drawer_in-opened}
@@ -45,11 +47,11 @@ unfoldable pub look_opened : List ℕ → ℕ → List Line → Answer
 look_opened k p ls =
     let inner = before_end (tail_lines ls) in
     pick (has_end (tail_lines ls))
-    (pick (has_other inner) (NotProperty (first_other_in p ls)) (with_value (value_in k (p + length (head_line ls)) inner))) NotClosed
+    (pick (has_other inner) (Err (NotProperty (first_other_in p ls))) (with_value (value_in k (p + length (head_line ls)) inner))) (Err NotClosed)
 
 -- where no opener stands in the place: a later one may, after blank lines
 unfoldable pub look_other : List Line → Answer
-look_other ls = pick (is_properties_line (head_line (drop (blanks ls) ls))) BlankFirst NoDrawer
+look_other ls = pick (is_properties_line (head_line (drop (blanks ls) ls))) (Err BlankFirst) (Err NoDrawer)
 
 -- in the place for a drawer, at byte p
 unfoldable pub look_in : List ℕ → ℕ → List Line → Answer
@@ -65,17 +67,17 @@ section_lines ls = take (leading (λ l. not (is_heading l)) ls) ls
 
 -- at the first of some lines, at byte p
 unfoldable pub look : List ℕ → ℕ → List Line → Answer
-look k p ls = let l = head_line ls in pick (is_heading l) (look_after k (p + length l) (section_lines (tail_lines ls))) NoHeading
+look k p ls = let l = head_line ls in pick (is_heading l) (look_after k (p + length l) (section_lines (tail_lines ls))) (Err NoHeading)
 
 -- the same, and nothing where no line starts
 unfoldable pub look_at : List ℕ → List ℕ → ℕ → Answer
-look_at k s p = pick (line_starts s p) (look k p (lines (drop p s))) NoHeading
+look_at k s p = pick (line_starts s p) (look k p (lines (drop p s))) (Err NoHeading)
 
 -- ---- it is the lookup's
 
 -- what is done with a drawer's lines
-abbrev value_at : List ℕ → List ℕ → Drawer → Answer
-value_at k s d = with_drawer d (λ b e. with_value (value_in k b (lines_in s b e)))
+abbrev value_at : List ℕ → List ℕ → Result Span Undrawn → Answer
+value_at k s d = with_drawer d (λ l. with_value (value_in k l.start (lines_in s l.start l.end)))
 
 -- rule 2's lines are those before the closer
 before-take : (ls : List Line) (n : ℕ) → properties_before ls ≡ some n → take n ls ≡ before_end ls
@@ -151,13 +153,13 @@ module _ (s : List ℕ) (p : ℕ) (k : List ℕ) (long : length s ≤ text_limit
   line = line_in s p (length s)
 
   -- nothing is found where no heading line starts, nor inside a line, nor past the text
-  pub lookup-nothing : (LineStart s p → is_heading line ≡ false) → lookup s p k ≡ NoHeading
+  pub lookup-nothing : (LineStart s p → is_heading line ≡ false) → lookup s p k ≡ Err NoHeading
   lookup-nothing h = lookup-no_heading s p k tried (heading_at-no s p (λ l. true≢false (sym l.heading ∙ h l.start)))
 
-  pub lookup-inside-line : line_starts s p ≡ false → lookup s p k ≡ NoHeading
+  pub lookup-inside-line : line_starts s p ≡ false → lookup s p k ≡ Err NoHeading
   lookup-inside-line h = lookup-no_heading s p k tried (sym (heading-inside s p h))
 
-  pub lookup-past : length s ≤ p → lookup s p k ≡ NoHeading
+  pub lookup-past : length s ≤ p → lookup s p k ≡ Err NoHeading
   lookup-past h = lookup-no_heading s p k tried (sym (heading-end s p h))
 
   pub lookup-look_at : lookup s p k ≡ look_at k s p
@@ -186,7 +188,7 @@ module _ (k : List ℕ) (n : ℕ) where
       let inner = before_end (tail_lines ls) in
       cases (has_end (tail_lines ls))
       (λ h. cases (has_other inner)
-      (λ i. rw (h, i) (ap NotProperty (omega arith)))
+      (λ i. rw (h, i) (ap (λ (q : ℕ). Err (NotProperty q)) (omega arith)))
       (λ i. rw (h, i, add_assoc n p (length (head_line ls))) (value-shift (p + length (head_line ls)) inner)))
       (λ h. rw h)
 
@@ -211,24 +213,24 @@ module _ (k : List ℕ) (n : ℕ) where
 -- the number, and the part that it gives
 pub number-shift : (n : ℕ) (r : Answer) → number (shift n r) ≡ number r
 unfolding shift
-number-shift n (Found a e) = refl
-number-shift n TooLong = refl
-number-shift n NoHeading = refl
-number-shift n BlankFirst = refl
-number-shift n NotClosed = refl
-number-shift n (NotProperty q) = refl
-number-shift n NoDrawer = refl
-number-shift n NoKey = refl
-number-shift n BadKey = refl
+number-shift n (Ok v) = refl
+number-shift n (Err TooLong) = refl
+number-shift n (Err NoHeading) = refl
+number-shift n (Err BlankFirst) = refl
+number-shift n (Err NotClosed) = refl
+number-shift n (Err (NotProperty q)) = refl
+number-shift n (Err NoDrawer) = refl
+number-shift n (Err NoKey) = refl
+number-shift n (Err BadKey) = refl
 
 pub part_of-shift : (s t : List ℕ) (r : Answer) → part_of (shift (length s) r) (s ++ t) ≡ part_of r t
 unfolding shift
-part_of-shift s t (Found a e) = let m : length s + e - (length s + a) ≡ e - a = omega arith in rw (m, drop-append-add s t a)
-part_of-shift s t TooLong = refl
-part_of-shift s t NoHeading = refl
-part_of-shift s t BlankFirst = refl
-part_of-shift s t NotClosed = refl
-part_of-shift s t (NotProperty q) = refl
-part_of-shift s t NoDrawer = refl
-part_of-shift s t NoKey = refl
-part_of-shift s t BadKey = refl
+part_of-shift s t (Ok v) = let m : length s + v.end - (length s + v.start) ≡ v.end - v.start = omega arith in rw (m, drop-append-add s t v.start)
+part_of-shift s t (Err TooLong) = refl
+part_of-shift s t (Err NoHeading) = refl
+part_of-shift s t (Err BlankFirst) = refl
+part_of-shift s t (Err NotClosed) = refl
+part_of-shift s t (Err (NotProperty q)) = refl
+part_of-shift s t (Err NoDrawer) = refl
+part_of-shift s t (Err NoKey) = refl
+part_of-shift s t (Err BadKey) = refl

@@ -3,7 +3,7 @@
 use mathlib.Core.Path.{◌≡◌, refl, sym, ap, ◌∙◌}
 use mathlib.Core.Bool.{true, false, ◌&&◌, true≢false, false≢true}
 use mathlib.Core.List.{List, [], ◌∷◌}
-use Prim.Native.Nat.{ℕ, zero, suc, ◌+◌, ◌-◌, ◌≤◌, ◌<◌}
+use Prim.Native.Nat.{ℕ, zero, suc, ◌+◌, ◌≤◌, ◌<◌}
 use native.Mathlib.Omega.{arith}
 use native.Mathlib.Nat.{add-zero, add_assoc}
 use lib.ListN.{length, take, drop}
@@ -17,11 +17,11 @@ use Rattle.text.proofs.Basics.{and_first}
 use Rattle.text.proofs.Laws.Lines.{some-lines, body_end-le}
 use Rattle.text.proofs.Laws.LinesIn.{lines_in-drop, size-lines_in}
 use Rattle.rules.specs.Headings.{is_heading}
-use Rattle.rules.specs.Kind
 use Rattle.rules.specs.LineTests.{property_name}
 use Rattle.rules.proofs.Laws.PropertyDrawers.{property_name-blank, HeadingLine, heading_line-some, heading_line-to}
-use Rattle.lookup.specs.declared.stages.Heading.TheVariants.{Before, Missing as NoHeading}
-use Rattle.lookup.specs.declared.stages.Value.TheVariants.{Part, Missing as NoValue}
+use Rattle.std.specs.declared.option.Option.TheVariants.{None, Some}
+use Rattle.lookup.specs.declared.span.Span.{Span}
+use Rattle.lookup.specs.Spans.{span}
 use Rattle.lookup.specs.Stages.{is_bad_key, heading_at, value_in}
 
 -- ---- where a line starts
@@ -87,21 +87,21 @@ module _ (s : List ℕ) (p : ℕ) where
   pub heading_line-or-not {χ} : {A : Type χ} → (HeadingLine s p → A) → ((HeadingLine s p → ⊥) → A) → A
   heading_line-or-not f g = cases (line_starts s p && is_heading line) (λ e. f (test-line e)) (λ e. g (λ h. true≢false (sym (test-yes h) ∙ e)))
 
-  pub heading_at-true : (line_starts s p && is_heading line) ≡ true → heading_at s p ≡ Before (p + length line)
+  pub heading_at-true : (line_starts s p && is_heading line) ≡ true → heading_at s p ≡ Some (p + length line)
   unfolding heading_at
   heading_at-true h = rw (h, heading_at)
 
-  pub heading_at-false : (line_starts s p && is_heading line) ≡ false → heading_at s p ≡ NoHeading
+  pub heading_at-false : (line_starts s p && is_heading line) ≡ false → heading_at s p ≡ None
   unfolding heading_at
   heading_at-false h = rw (h, heading_at)
 
-  pub heading_at-yes : HeadingLine s p → heading_at s p ≡ Before (p + length line)
+  pub heading_at-yes : HeadingLine s p → heading_at s p ≡ Some (p + length line)
   heading_at-yes h = heading_at-true (test-yes h)
 
-  pub heading_at-no : (HeadingLine s p → ⊥) → heading_at s p ≡ NoHeading
+  pub heading_at-no : (HeadingLine s p → ⊥) → heading_at s p ≡ None
   heading_at-no h = cases (line_starts s p && is_heading line) (λ e. absurd (h (test-line e))) heading_at-false
 
-  pub heading_at-to : (q : ℕ) → heading_at s p ≡ Before q → q ≤ length s
+  pub heading_at-to : (q : ℕ) → heading_at s p ≡ Some q → q ≤ length s
   heading_at-to q h =
       heading_line-or-not
       (λ l. let i = heading_at-yes l in let n : q ≡ p + length line = cc in rw n (heading_line-to s p l))
@@ -110,12 +110,12 @@ module _ (s : List ℕ) (p : ℕ) where
 -- ---- the key's line
 
 module _ (k : List ℕ) (p : ℕ) where
-  pub value_in-nil : value_in k p [] ≡ NoValue
+  pub value_in-nil : value_in k p [] ≡ None
   unfolding value_in
   value_in-nil = refl
 
   module _ (l : Line) (ls : List Line) where
-    pub value_in-here : same (property_name l) k ≡ true → value_in k p (l ∷ ls) ≡ Part (p + value_start (length (first_run (body l))) l) (p + body_end l)
+    pub value_in-here : same (property_name l) k ≡ true → value_in k p (l ∷ ls) ≡ Some (span (p + value_start (length (first_run (body l))) l) (p + body_end l))
     unfolding value_in
     value_in-here h = rw (h, value_in)
 
@@ -123,18 +123,17 @@ module _ (k : List ℕ) (p : ℕ) where
     unfolding value_in
     value_in-skip h = rw (h, value_in)
 
-value_in-order : (k : List ℕ) (p : ℕ) (ls : List Line) (a z : ℕ) → value_in k p ls ≡ Part a z → (a ≤ z) × (z ≤ p + size ls)
+value_in-order : (k : List ℕ) (p : ℕ) (ls : List Line) (v : Span) → value_in k p ls ≡ Some v → (v.start ≤ v.end) × (v.end ≤ p + size ls)
 unfolding size value_start
-value_in-order k p [] a z h = let n = value_in-nil k p in absurd (let z : ◌≡◌ {A = ℕ} 0 1 = cc in omega arith)
-value_in-order k p (l ∷ ls) a z h = cases (same (property_name l) k)
+value_in-order k p [] v h = let n = value_in-nil k p in absurd (let z : ◌≡◌ {A = ℕ} 0 1 = cc in omega arith)
+value_in-order k p (l ∷ ls) v h = cases (same (property_name l) k)
     (λ i. let n = value_in-here k p l ls i in
-    let from : a ≡ p + value_start (length (first_run (body l))) l = cc in
-    let to : z ≡ p + body_end l = cc in
-    omega (arith, body_end-le l))
-    (λ i. omega (arith, value_in-order k (p + length l) ls a z (sym (value_in-skip k p l ls i) ∙ h)))
+    let is : v ≡ span (p + value_start (length (first_run (body l))) l) (p + body_end l) = cc in
+    rw is (omega (arith, body_end-le l)))
+    (λ i. omega (arith, value_in-order k (p + length l) ls v (sym (value_in-skip k p l ls i) ∙ h)))
 
-pub value_in-inside : (k s : List ℕ) (p e a z : ℕ) → p ≤ e → e ≤ length s → value_in k p (lines_in s p e) ≡ Part a z → (a ≤ z) × (z ≤ length s)
-value_in-inside k s p e a z h i j = omega (arith, value_in-order k p (lines_in s p e) a z j, size-lines_in s p e h i)
+pub value_in-inside : (k s : List ℕ) (p e : ℕ) (v : Span) → p ≤ e → e ≤ length s → value_in k p (lines_in s p e) ≡ Some v → (v.start ≤ v.end) × (v.end ≤ length s)
+value_in-inside k s p e v h i j = omega (arith, value_in-order k p (lines_in s p e) v j, size-lines_in s p e h i)
 
 -- no blank line has the key
 same-nil : (k : List ℕ) → is_bad_key k ≡ false → same [] k ≡ false
