@@ -4,11 +4,10 @@ use mathlib.Core.List.{List}
 use Prim.Native.Nat.{ℕ}
 use Rattle.text.specs.Number
 use Rattle.sheet.specs.Order.{Order}
-use Rattle.intake.specs.declared.call.Taken.{Taken}
 use Rattle.intake.specs.Book.{Book}
 use Rattle.intake.specs.Call.{Call, call_of, call}
 use Rattle.intake.specs.Log.{played}
-use Rattle.intake.specs.Promises.{Accepted, Answers, AsBefore, Untouched, Settled, LogSettled}
+use Rattle.intake.specs.Promises.{Accepted, Taken, Answers, AsBefore, Untouched, Settled, LogSettled}
 use Rattle.intake.proofs.Laws.Book.{extended-earlier, extended-past, extended-size}
 use Rattle.intake.proofs.Laws.Calls.{more, call-took, call-cases}
 use Rattle.intake.proofs.Laws.Runs.{any-run}

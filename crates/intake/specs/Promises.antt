@@ -6,7 +6,13 @@ use Rattle.sheet.specs.Order.{Order}
 use Rattle.sheet.specs.Form.{Entry}
 use Rattle.sheet.specs.Faults.{Good, judged}
 use Rattle.sheet.specs.Promises.{Gives}
-use Rattle.intake.specs.declared.call.Taken.{Taken}
+use Rattle.std.specs.Result.{result_unwrap_or}
+use Rattle.std.specs.declared.result.Result.{Result}
+use Rattle.std.specs.declared.result.Result.TheVariants.{Ok, Err}
+use Rattle.sheet.specs.Spans.{fault_number}
+use Rattle.intake.specs.declared.call.Refusal.{Refusal}
+use Rattle.intake.specs.declared.call.Refusal.TheVariants as Refusals
+use Rattle.intake.specs.declared.log.CutLog.{CutLog}
 use Rattle.intake.specs.Required.{request_key, vin_key, request_of, vin_of}
 use Rattle.intake.specs.Book.{Book, book_of, text}
 use Rattle.intake.specs.Call.{Call, call}
@@ -44,6 +50,28 @@ pub record AnyRun (b : Book) (xs : List (List ℕ)) : Type 0 where
 
 -- ---- a call
 
+-- what an answer says: its number, and the bytes in use after it
+pub record Taken : Type 0 where
+  pub number : ℕ
+  pub used : ℕ
+
+-- the number of a refusal, and of an answer
+abbrev pub refusal_number : Refusal → ℕ
+refusal_number (Refusals.Fault f) = fault_number f
+refusal_number Refusals.MissingKey = Number.missing_key
+refusal_number Refusals.BadUsed = Number.bad_used
+refusal_number Refusals.Seen = Number.seen
+refusal_number Refusals.TooLong = Number.too_long
+refusal_number Refusals.ShortOutput = Number.short_output
+
+abbrev pub answer_number : Result ℕ Refusal → ℕ
+answer_number (Ok n) = Number.done
+answer_number (Err f) = refusal_number f
+
+-- what is said where u bytes were in use: with a refusal they are in use still
+abbrev pub told : ℕ → Result ℕ Refusal → Taken
+told u r = record { number = answer_number r; used = result_unwrap_or r u }
+
 -- answer r and the bytes y that are left are a call's
 pub record Answers (r : Taken) (y : List ℕ) (c : Call) : Type 0 where
   pub number : r.number ≡ c.number
@@ -70,6 +98,14 @@ pub record Settled (b : Book) (x : List ℕ) (r : Taken) (y : List ℕ) : Type 0
   pub runs : (xs : List (List ℕ)) → AnyRun b xs
 
 -- ---- a log
+
+-- the same of a log
+abbrev pub log_number : Result ℕ CutLog → ℕ
+log_number (Ok n) = Number.done
+log_number (Err e) = Number.cut_log
+
+abbrev pub told_log : ℕ → Result ℕ CutLog → Taken
+told_log u r = record { number = log_number r; used = result_unwrap_or r u }
 
 -- Book b and log x: the answer r, and the book's bytes y that are left.
 pub record LogSettled (b : Book) (x : List ℕ) (r : Taken) (y : List ℕ) : Type 0 where

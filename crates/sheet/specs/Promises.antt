@@ -6,10 +6,14 @@ use Rattle.lookup.specs.Stages.{is_bad_key}
 use Rattle.lookup.specs.Lookup.{lookup, number, part_of}
 use Rattle.table.specs.Nesting.{nesting}
 use Rattle.table.specs.Reading.{reading}
-use Rattle.sheet.specs.declared.write.Written.{Written}
+use Rattle.std.specs.declared.result.Result.{Result}
+use Rattle.std.specs.declared.result.Result.TheVariants.{Ok, Err}
+use Rattle.sheet.specs.declared.write.Refusal.{Refusal}
+use Rattle.sheet.specs.declared.write.Refusal.TheVariants as Refusals
 use Rattle.sheet.specs.Order.{Pair, pair, Order, has_key}
 use Rattle.sheet.specs.Faults.{Good, judged}
 use Rattle.sheet.specs.Sheet.{sheet}
+use Rattle.sheet.specs.Spans.{fault_number}
 use Rattle.sheet.specs.Table.{sheet_table}
 use Rattle.sheet.specs.Answers.{Outcome, write_sheet}
 
@@ -38,13 +42,33 @@ pub record WrittenFor (x : List ℕ) (s : List ℕ) : Type 0 where
   pub bytes : s ≡ sheet order
   pub promised : SheetOf order s
 
+-- the number of a refusal, and the bytes needed, else 0
+abbrev pub refusal_number : Refusal → ℕ
+refusal_number (Refusals.Fault f) = fault_number f
+refusal_number Refusals.TooLong = Number.too_long
+refusal_number (Refusals.ShortOutput n) = Number.short_output
+
+abbrev pub needed : Refusal → ℕ
+needed (Refusals.Fault f) = 0
+needed Refusals.TooLong = 0
+needed (Refusals.ShortOutput n) = n
+
+-- an answer's number and count: 0 and the sheet's length, or those of the refusal
+abbrev pub answer_number : Result ℕ Refusal → ℕ
+answer_number (Ok n) = Number.done
+answer_number (Err f) = refusal_number f
+
+abbrev pub answer_count : Result ℕ Refusal → ℕ
+answer_count (Ok n) = n
+answer_count (Err f) = needed f
+
 -- answer r and the output t' that is left are an outcome
-pub record Answers (r : Written) (t' : List ℕ) (w : Outcome) : Type 0 where
-  pub number : r.number ≡ w.number
-  pub count : r.count ≡ w.count
+pub record Answers (r : Result ℕ Refusal) (t' : List ℕ) (w : Outcome) : Type 0 where
+  pub number : answer_number r ≡ w.number
+  pub count : answer_count r ≡ w.count
   pub output : t' ≡ w.output
 
 -- Buffer x and lent output t: the answer r, and the output t' that is left.
-pub record Settled (x t : List ℕ) (r : Written) (t' : List ℕ) : Type 0 where
+pub record Settled (x t : List ℕ) (r : Result ℕ Refusal) (t' : List ℕ) : Type 0 where
   pub answers : Answers r t' (write_sheet x t)
-  pub written : r.number ≡ Number.done → WrittenFor x (take r.count t')
+  pub written : answer_number r ≡ Number.done → WrittenFor x (take (answer_count r) t')

@@ -3,14 +3,14 @@ use Rattle.std.specs.Prelude.{◌≡◌, Bool, true, List, [], ℕ, zero, suc, �
 use Rattle.std.proofs.Math.Option.{Option, get_or, none, some}
 use Rattle.text.specs.Parts.{part}
 use Rattle.rules.specs.Items.{is_some}
+use Rattle.std.specs.declared.option.Option as Options
+use Rattle.std.specs.declared.result.Result as Results
+use Rattle.text.specs.Number
 use Rattle.sheet.specs.declared.buffer.Part.{Part}
-use Rattle.sheet.specs.declared.buffer.Part.TheVariants.{At, Missing}
 use Rattle.sheet.specs.declared.pairs.PairSpan.{PairSpan}
 use Rattle.sheet.specs.declared.layout.Layout.{Layout}
-use Rattle.sheet.specs.declared.layout.Found.{Found}
-use Rattle.sheet.specs.declared.layout.Found.TheVariants.{Order as OrderThere, Nothing}
-use Rattle.sheet.specs.declared.judge.Verdict.{Verdict}
-use Rattle.sheet.specs.declared.judge.Verdict.TheVariants.{Good as GoodThere, Refused as RefusedBy}
+use Rattle.sheet.specs.declared.judge.Fault.{Fault}
+use Rattle.sheet.specs.declared.judge.Fault.TheVariants as Faults
 use Rattle.sheet.specs.Order.{Pair, pair, Order}
 use Rattle.sheet.specs.Buffer.{pair_limit, text_width, cut_as, sized, pair_in, pairs_in, order_in}
 use Rattle.sheet.specs.Faults.{Refused, Good, judged}
@@ -32,9 +32,11 @@ abbrev pub text_reach : ℕ
 text_reach = 65536
 
 -- at byte p of buffer x: the bytes after their length, which is given in n bytes
-abbrev pub SizedAt : ℕ → List ℕ → ℕ → Part → Type 0
-SizedAt n x p Missing = sized n (drop p x) ≡ none
-SizedAt n x p (At a e) = (a ≡ p + n) × (a ≤ e) × (e < a + reach n) × (e ≤ length x) × (sized n (drop p x) ≡ some (cut_as (part x a e) (drop e x)))
+abbrev pub SizedAt : ℕ → List ℕ → ℕ → Options.Option Part → Type 0
+SizedAt n x p Options.TheVariants.None = sized n (drop p x) ≡ none
+SizedAt n x p (Options.TheVariants.Some r) =
+    (r.from ≡ p + n) × (r.from ≤ r.to) × (r.to < r.from + reach n) × (r.to ≤ length x)
+    × (sized n (drop p x) ≡ some (cut_as (part x r.from r.to) (drop r.to x)))
 
 -- a pair stands at byte p
 abbrev pub HasPair : List ℕ → ℕ → Type 0
@@ -75,10 +77,14 @@ pairs_at x p n = get_or (pairs_in n (drop p x)) []
 abbrev pub HasPairs : List ℕ → ℕ → ℕ → Type 0
 HasPairs x p n = are_pairs x p n ≡ true
 
+-- a test of the spans of pairs, told by its answers, is test f of the pairs themselves
+abbrev pub Tests : List ℕ → (Pair → Bool) → (PairSpan → Bool → Type 0) → Type 0
+Tests x f answers = (r : PairSpan) (b : Bool) → PairIn x r → answers r b → b ≡ f (pair_of x r)
+
 -- the bytes that were sought, if there are any, stand at a part of buffer x
-abbrev pub ValueAt : List ℕ → Option (List ℕ) → Part → Type 0
-ValueAt x v Missing = v ≡ none
-ValueAt x v (At a e) = (a ≤ e) × (e ≤ length x) × (v ≡ some (part x a e))
+abbrev pub ValueAt : List ℕ → Option (List ℕ) → Options.Option Part → Type 0
+ValueAt x v Options.TheVariants.None = v ≡ none
+ValueAt x v (Options.TheVariants.Some r) = (r.from ≤ r.to) × (r.to ≤ length x) × (v ≡ some (part x r.from r.to))
 
 -- the order whose title ends at a byte, before the count byte
 abbrev pub order_at : List ℕ → Layout → Order
@@ -91,10 +97,17 @@ pub record LaidOut (x : List ℕ) (l : Layout) : Type 0 where
   pub few : l.count ≤ pair_limit
   pub pairs : HasPairs x (l.title + 1) l.count
 
-abbrev pub OrderIn : List ℕ → Found → Type 0
-OrderIn x Nothing = order_in x ≡ none
-OrderIn x (OrderThere l) = LaidOut x l × (order_in x ≡ some (order_at x l))
+abbrev pub OrderIn : List ℕ → Options.Option Layout → Type 0
+OrderIn x Options.TheVariants.None = order_in x ≡ none
+OrderIn x (Options.TheVariants.Some l) = LaidOut x l × (order_in x ≡ some (order_at x l))
 
-abbrev pub JudgedAs : List ℕ → Verdict → Type 0
-JudgedAs x (RefusedBy n) = judged x ≡ Refused n
-JudgedAs x (GoodThere l) = LaidOut x l × (judged x ≡ Good (order_at x l))
+-- the number of a fault
+abbrev pub fault_number : Fault → ℕ
+fault_number Faults.BadOrder = Number.bad_order
+fault_number Faults.BadText = Number.bad_text
+fault_number Faults.BadName = Number.bad_name
+fault_number Faults.RepeatedKey = Number.repeated_key
+
+abbrev pub JudgedAs : List ℕ → Results.Result Layout Fault → Type 0
+JudgedAs x (Results.TheVariants.Err f) = judged x ≡ Refused (fault_number f)
+JudgedAs x (Results.TheVariants.Ok l) = LaidOut x l × (judged x ≡ Good (order_at x l))

@@ -11,9 +11,9 @@ pub const KEY_WIDTH: usize = 1;
 
 // Some bytes of a buffer, from a byte to a byte.
 #[derive(Clone, Copy)]
-pub enum Part {
-    At(usize, usize),
-    Missing,
+pub struct Part {
+    pub from: usize,
+    pub to: usize,
 }
 
 // The number in so many bytes, low first.
@@ -22,27 +22,25 @@ pub fn low_first(buffer: &[u8], at: usize, width: usize) -> usize
     ensures { (result ≡ low_first (part buffer.now at (at + width))) × (result < reach width) }
 {
     let mut n = 0;
-    let mut i = width;
-    while 0 < i {
-        i -= 1;
+    for i in (0..width).rev() {
         n = n * 256 + (buffer[at + i] as usize);
     }
     n
 }
 
-// The bytes that stand after their length, which is given in so many bytes.
-pub fn find_sized(buffer: &[u8], at: usize, width: usize) -> Part
+// The bytes that stand after their length, which is given in so many bytes; none where the buffer is cut short.
+pub fn find_sized(buffer: &[u8], at: usize, width: usize) -> Option<Part>
     requires { (at ≤ length buffer.now) × (width ≤ widest) }
     ensures { SizedAt width buffer.now at result }
 {
     let size = buffer.len();
     if size - at < width {
-        return Part::Missing;
+        return None;
     }
     let from = at + width;
     let n = low_first(buffer, at, width);
     if size - from < n {
-        return Part::Missing;
+        return None;
     }
-    Part::At(from, from + n)
+    Some(Part { from, to: from + n })
 }

@@ -1,12 +1,11 @@
 // What an order is refused for by 13, 14 and 15, each over all pairs.  [02 order 5]
-ghost use Rattle.std.specs.Prelude.{◌≡◌, ◌≤◌, length};
+ghost use Rattle.std.specs.Prelude.{◌≡◌, Bool, ◌≤◌, length};
 ghost use Rattle.text.specs.Parts.{part};
-ghost use Rattle.sheet.specs.Order.{has_key, some_pair};
+ghost use Rattle.sheet.specs.Order.{Pair, has_key, some_pair};
 ghost use Rattle.sheet.specs.Faults.{has_break, is_bad_text, is_bad_name, repeats};
-ghost use Rattle.sheet.specs.Spans.{HasPairs, pairs_at};
+ghost use Rattle.sheet.specs.Spans.{HasPairs, PairIn, Tests, pairs_at};
 
-use crate::buffer::Part;
-use crate::pairs::pair_at;
+use crate::pairs::{PairSpan, pair_at};
 use crate::search::find_value;
 use lookup::stages::is_bad_key;
 use text::bytes::{Class, is_of};
@@ -17,15 +16,7 @@ fn has_break(buffer: &[u8], from: usize, to: usize) -> bool
     requires { (from ≤ to) × (to ≤ length buffer.now) }
     ensures { result ≡ has_break (part buffer.now from to) }
 {
-    let mut i = from;
-    while i < to {
-        let b = buffer[i];
-        if b == 10 || b == 13 {
-            return true;
-        }
-        i += 1;
-    }
-    false
+    buffer[from..to].iter().any(|b| *b == 10 || *b == 13)
 }
 
 // Whether a title or value holds byte 10 or 13, or has a blank byte at either end.
@@ -42,22 +33,33 @@ pub fn is_bad_text(buffer: &[u8], from: usize, to: usize) -> bool
     is_of(buffer[from], Class::Blank) || is_of(buffer[to - 1], Class::Blank)
 }
 
+// Whether one of so many pairs passes a test.
+fn some_pair<F: Fn(PairSpan) -> bool>(buffer: &[u8], from: usize, count: usize, test: F) -> bool
+    requires { HasPairs buffer.now from count × ((p : PairSpan) → PairIn buffer.now p → F.pre test p) }
+    ensures { (f : Pair → Bool) → Tests buffer.now f (F.post test) → result ≡ some_pair f (pairs_at buffer.now from count) }
+{
+    let mut at = from;
+    for _ in 0..count {
+        let pair = pair_at(buffer, at);
+        if test(pair) {
+            return true;
+        }
+        at = pair.end;
+    }
+    false
+}
+
 // Whether one of so many values is bad.
 pub fn has_bad_value(buffer: &[u8], from: usize, count: usize) -> bool
     requires { HasPairs buffer.now from count }
     ensures { result ≡ some_pair (λ p. is_bad_text p.value) (pairs_at buffer.now from count) }
 {
-    let mut at = from;
-    let mut n = count;
-    while 0 < n {
-        let pair = pair_at(buffer, at);
-        if is_bad_text(buffer, pair.value, pair.end) {
-            return true;
-        }
-        at = pair.end;
-        n -= 1;
-    }
-    false
+    some_pair(
+        buffer,
+        from,
+        count,
+        |pair| is_bad_text(buffer, pair.value, pair.end),
+    )
 }
 
 // Whether a key is bad, or `END`.
@@ -68,23 +70,16 @@ fn is_bad_name(key: &[u8]) -> bool
 }
 
 // Whether one of so many keys is bad, or `END`.
-pub fn has_bad_name(buffer: &[u8], start: usize, count: usize) -> bool
-    requires { HasPairs buffer.now start count }
-    ensures { result ≡ some_pair (λ p. is_bad_name p.key) (pairs_at buffer.now start count) }
+pub fn has_bad_name(buffer: &[u8], from: usize, count: usize) -> bool
+    requires { HasPairs buffer.now from count }
+    ensures { result ≡ some_pair (λ p. is_bad_name p.key) (pairs_at buffer.now from count) }
 {
-    let mut at = start;
-    let mut n = count;
-    while 0 < n {
-        let pair = pair_at(buffer, at);
-        let from = pair.from;
-        let to = pair.to;
-        if is_bad_name(&buffer[from..to]) {
-            return true;
-        }
-        at = pair.end;
-        n -= 1;
-    }
-    false
+    some_pair(
+        buffer,
+        from,
+        count,
+        |pair| is_bad_name(&buffer[pair.from..pair.to]),
+    )
 }
 
 // Whether one of so many pairs has a key, case ignored.
@@ -92,26 +87,19 @@ fn has_key(buffer: &[u8], from: usize, count: usize, key: &[u8]) -> bool
     requires { HasPairs buffer.now from count }
     ensures { result ≡ has_key key.now (pairs_at buffer.now from count) }
 {
-    let Part::At(_, _) = find_value(buffer, from, count, key) else {
-        return false;
-    };
-    true
+    find_value(buffer, from, count, key).is_some()
 }
 
 // Whether one of so many keys comes again later, case ignored.
-pub fn repeats_key(buffer: &[u8], start: usize, count: usize) -> bool
-    requires { HasPairs buffer.now start count }
-    ensures { result ≡ repeats (pairs_at buffer.now start count) }
+pub fn repeats_key(buffer: &[u8], from: usize, count: usize) -> bool
+    requires { HasPairs buffer.now from count }
+    ensures { result ≡ repeats (pairs_at buffer.now from count) }
 {
-    let mut at = start;
-    let mut n = count;
-    while 0 < n {
+    let mut at = from;
+    for left in (0..count).rev() {
         let pair = pair_at(buffer, at);
-        let from = pair.from;
-        let to = pair.to;
         at = pair.end;
-        n -= 1;
-        if has_key(buffer, at, n, &buffer[from..to]) {
+        if has_key(buffer, at, left, &buffer[pair.from..pair.to]) {
             return true;
         }
     }

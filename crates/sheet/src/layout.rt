@@ -1,7 +1,7 @@
 // Where the parts of an order stand in its buffer.  [02 order 5]
 ghost use Rattle.sheet.specs.Spans.{OrderIn};
 
-use crate::buffer::{Part, TEXT_WIDTH, find_sized};
+use crate::buffer::{TEXT_WIDTH, find_sized};
 use crate::pairs::are_pairs;
 
 // Pairs of an order, as specs/Buffer has it.
@@ -14,31 +14,20 @@ pub struct Layout {
     pub count: usize,
 }
 
-#[derive(Clone, Copy)]
-pub enum Found {
-    Order(Layout),
-    Nothing,
-}
-
-// The order of a buffer; nothing where it is cut short, long, or of over 16 pairs.
-pub fn find_order(buffer: &[u8]) -> Found
+// The order of a buffer; none where it is cut short, long, or of over 16 pairs.
+pub fn find_order(buffer: &[u8]) -> Option<Layout>
     ensures { OrderIn buffer.now result }
 {
-    let Part::At(_, title) = find_sized(buffer, 0, TEXT_WIDTH) else {
-        return Found::Nothing;
-    };
+    let title = find_sized(buffer, 0, TEXT_WIDTH)?.to;
     if buffer.len() <= title {
-        return Found::Nothing;
+        return None;
     }
     let count = buffer[title] as usize;
     if PAIR_LIMIT < count {
-        return Found::Nothing;
+        return None;
     }
     if !are_pairs(buffer, title + 1, count) {
-        return Found::Nothing;
+        return None;
     }
-    Found::Order(Layout {
-        title: title,
-        count: count,
-    })
+    Some(Layout { title, count })
 }

@@ -2,7 +2,7 @@
 ghost use Rattle.std.specs.Prelude.{◌≡◌, ◌≤◌, length};
 ghost use Rattle.sheet.specs.Spans.{HasPair, PairAt, are_pairs};
 
-use crate::buffer::{KEY_WIDTH, Part, TEXT_WIDTH, find_sized, low_first};
+use crate::buffer::{KEY_WIDTH, TEXT_WIDTH, find_sized, low_first};
 
 // A pair's key stands from `from` to `to`, its value from `value` to `end`, where the pair ends.
 #[derive(Clone, Copy)]
@@ -22,9 +22,9 @@ pub fn pair_at(buffer: &[u8], at: usize) -> PairSpan
     let to = from + low_first(buffer, at, KEY_WIDTH);
     let value = to + TEXT_WIDTH;
     PairSpan {
-        from: from,
-        to: to,
-        value: value,
+        from,
+        to,
+        value,
         end: value + low_first(buffer, to, TEXT_WIDTH),
     }
 }
@@ -35,16 +35,14 @@ pub fn are_pairs(buffer: &[u8], from: usize, count: usize) -> bool
     ensures { result ≡ are_pairs buffer.now from count }
 {
     let mut at = from;
-    let mut n = count;
-    while 0 < n {
-        let Part::At(_, to) = find_sized(buffer, at, KEY_WIDTH) else {
+    for _ in 0..count {
+        let Some(key) = find_sized(buffer, at, KEY_WIDTH) else {
             return false;
         };
-        let Part::At(_, end) = find_sized(buffer, to, TEXT_WIDTH) else {
+        let Some(value) = find_sized(buffer, key.to, TEXT_WIDTH) else {
             return false;
         };
-        at = end;
-        n -= 1;
+        at = value.to;
     }
     at == buffer.len()
 }

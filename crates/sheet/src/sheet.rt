@@ -27,9 +27,7 @@ fn put_pair(buffer: &[u8], pair: PairSpan, out: &mut [u8], at: usize) -> usize
     requires { PairIn buffer.now pair × (at + length (pair_line (pair_of buffer.now pair)) ≤ length out.old) }
     ensures { Puts out.old at (pair_line (pair_of buffer.now pair)) out.new result }
 {
-    let from = pair.from;
-    let to = pair.to;
-    let mut end = put_between(out, at, b":", &buffer[from..to], b":");
+    let mut end = put_between(out, at, b":", &buffer[pair.from..pair.to], b":");
     end = put_value(buffer, pair.value, pair.end, out, end);
     put(out, end, b"\n")
 }
@@ -40,13 +38,11 @@ fn put_pairs(buffer: &[u8], from: usize, count: usize, out: &mut [u8], at: usize
     ensures { Puts out.old at (join (pair_lines (pairs_at buffer.now from count))) out.new result }
 {
     let mut here = from;
-    let mut n = count;
     let mut to = at;
-    while 0 < n {
+    for _ in 0..count {
         let pair = pair_at(buffer, here);
         to = put_pair(buffer, pair, out, to);
         here = pair.end;
-        n -= 1;
     }
     to
 }

@@ -35,13 +35,11 @@ fn pairs_size(buffer: &[u8], from: usize, count: usize) -> usize
     ensures { (result ≡ length (join (pair_lines (pairs_at buffer.now from count)))) × (result ≤ longest * count) }
 {
     let mut at = from;
-    let mut n = count;
     let mut size = 0;
-    while 0 < n {
+    for _ in 0..count {
         let pair = pair_at(buffer, at);
         size += pair_size(buffer, pair);
         at = pair.end;
-        n -= 1;
     }
     size
 }

@@ -1,54 +1,75 @@
 ghost use Rattle.std.specs.Prelude.{◌≡◌};
+ghost use Rattle.sheet.specs.declared.write.Refusal.TheVariants as Refusals;
 ghost use Rattle.sheet.specs.Answers.{put_out};
 ghost use Rattle.sheet.specs.Sheet.{sheet};
 ghost use Rattle.sheet.specs.Spans.{LaidOut, order_at};
-ghost use Rattle.sheet.specs.Promises.{Settled, Answers};
+ghost use Rattle.sheet.specs.Promises.{Settled, Answers, refusal_number, needed};
 
-use crate::judge::{Verdict, judge};
+use crate::judge::{Fault, judge};
 use crate::layout::Layout;
 use crate::sheet::put_sheet;
 use crate::size::sheet_size;
 use text::{limit, number};
 
-// The number of an answer; with 0 the sheet's length, with 16 the bytes needed, else 0.
+// Why no sheet is written: a fault of the order, a sheet over 65,536 bytes, or no room, with the bytes needed.
 #[derive(Clone, Copy)]
-pub struct Written {
-    pub number: u32,
-    pub count: usize,
+pub enum Refusal {
+    Fault(Fault),
+    TooLong,
+    ShortOutput(usize),
 }
 
-fn answered(number: u32, count: usize) -> Written
-    ensures { result ≡ record { number = number; count = count } }
-{
-    Written {
-        number: number,
-        count: count,
+impl From<Fault> for Refusal {
+    ghost from_gives = { λ f r. r ≡ Refusals.Fault f };
+
+    fn from(fault: Fault) -> Refusal {
+        Refusal::Fault(fault)
+    }
+}
+
+impl Refusal {
+    // The number that C is given.
+    pub fn number(self) -> u32
+        ensures { result ≡ refusal_number self }
+    {
+        match self {
+            Refusal::Fault(fault) => fault.number(),
+            Refusal::TooLong => number::TOO_LONG,
+            Refusal::ShortOutput(_) => number::SHORT_OUTPUT,
+        }
+    }
+
+    // The count that C is given: the bytes needed where there is no room, else 0.
+    pub fn needed(self) -> usize
+        ensures { result ≡ needed self }
+    {
+        match self {
+            Refusal::ShortOutput(size) => size,
+            Refusal::Fault(_) | Refusal::TooLong => 0,
+        }
     }
 }
 
 // Writes the sheet of an order that is good, if it is not too long and there is room.
-fn write_good(order: &[u8], layout: Layout, out: &mut [u8]) -> Written
+fn write_good(order: &[u8], layout: Layout, out: &mut [u8]) -> Result<usize, Refusal>
     requires { LaidOut order.now layout }
     ensures { Answers result out.new (put_out (sheet (order_at order.now layout)) out.old) }
 {
     let size = sheet_size(order, layout);
     if limit::TEXT < size {
-        return answered(number::TOO_LONG, 0);
+        return Err(Refusal::TooLong);
     }
     if out.len() < size {
-        return answered(number::SHORT_OUTPUT, size);
+        return Err(Refusal::ShortOutput(size));
     }
     put_sheet(order, layout, out);
-    answered(number::DONE, size)
+    Ok(size)
 }
 
-// Writes an order's sheet into a lent output. Tries in turn: the buffer holds no order; a title or value is bad; a key is bad; a key is repeated;
-// the sheet is over 65,536 bytes; there is no room.
-pub fn write_sheet(order: &[u8], out: &mut [u8]) -> Written
+// Writes an order's sheet into a lent output; gives its length. Tries in turn: the order's faults; the sheet is over 65,536 bytes; there is no room.
+pub fn write_sheet(order: &[u8], out: &mut [u8]) -> Result<usize, Refusal>
     ensures { Settled order.now out.old result out.new }
 {
-    match judge(order) {
-        Verdict::Refused(number) => answered(number, 0),
-        Verdict::Good(layout) => write_good(order, layout, out),
-    }
+    let layout = judge(order)?;
+    write_good(order, layout, out)
 }

@@ -16,12 +16,11 @@ use Rattle.rules.proofs.Basics.{options, some-none}
 use Rattle.sheet.specs.Buffer.{sized}
 use Rattle.sheet.specs.Form.{Entry}
 use Rattle.sheet.proofs.Laws.Forms.{and_then-only, sized-given, sized-only}
-use Rattle.intake.specs.declared.call.Taken.{Taken}
 use Rattle.intake.specs.Book.{Book, book_of}
 use Rattle.intake.specs.Call.{Call, call_of, call}
 use Rattle.intake.specs.Log.{log_width, orders_from, orders_in, run, played_for, played}
 use Rattle.intake.specs.Form.{log_bytes, orders_of}
-use Rattle.intake.specs.Promises.{Answers}
+use Rattle.intake.specs.Promises.{Taken, Answers}
 use Rattle.intake.proofs.Laws.Orders.{before, from_end, from_step, from_cut}
 use Rattle.intake.proofs.Laws.Again.{run-twice}
 

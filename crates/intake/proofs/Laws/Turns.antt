@@ -1,26 +1,31 @@
 -- Laws of a call's answer: each refusal in its turn, and what is left of the book.
-use mathlib.Core.Path.{◌≡◌, ap}
+use mathlib.Core.Path.{◌≡◌, refl}
 use mathlib.Core.Bool.{true, false}
 use mathlib.Core.List.{List}
 use Prim.Native.Nat.{ℕ, ◌+◌, ◌≤◌, ◌<◌}
 use lib.ListN.{length}
 use borrow.Author.Tests.{lt-ltb, le-ltb}
+use Rattle.std.specs.Result.{IsErrAnd}
+use Rattle.std.specs.declared.result.Result.{Result}
+use Rattle.std.specs.declared.result.Result.TheVariants.{Ok, Err}
 use Rattle.text.specs.Number
 use Rattle.text.specs.Limits.{text_limit}
+use Rattle.sheet.specs.declared.judge.Fault.{Fault}
 use Rattle.sheet.specs.Order.{Order}
 use Rattle.sheet.specs.Faults.{Refused, Good, judged}
 use Rattle.sheet.specs.Sheet.{sheet}
-use Rattle.intake.specs.declared.call.Taken.{Taken}
+use Rattle.sheet.specs.Spans.{fault_number}
+use Rattle.intake.specs.declared.call.Refusal.{Refusal}
+use Rattle.intake.specs.declared.call.Refusal.TheVariants as Refusals
 use Rattle.intake.specs.Required.{request_of, lacks_key}
 use Rattle.intake.specs.Seen.{seen}
 use Rattle.intake.specs.Book.{Book, text, is_overused, added, extended}
 use Rattle.intake.specs.Call.{Call, call_of, appended, taken, call_judged, call}
-use Rattle.intake.specs.Promises.{Answers}
+use Rattle.intake.specs.Promises.{Taken, Answers, told}
 
 -- an answer of a number and the bytes in use, and the book's bytes that are left
-pub answers : {r : Taken} {n u : ℕ} {b : Book} {y : List ℕ} {c : Call} → r ≡ record { number = n; used = u } → u ≡ b.used → y ≡ b.bytes
-    → c ≡ call_of n b → Answers r y c
-answers h u i j = rw j (record { number = ap (λ (r : Taken). r.number) h; used = rw h u; bytes = i })
+pub answers : (r : Taken) {b : Book} {y : List ℕ} {c : Call} → r.used ≡ b.used → y ≡ b.bytes → c ≡ call_of r.number b → Answers r y c
+answers r u i j = rw j (record { number = refl; used = u; bytes = i })
 
 module _ (b : Book) (x : List ℕ) where
   pub appended-long : text_limit < b.used + length x → appended b x ≡ call_of Number.too_long b
@@ -63,3 +68,9 @@ module _ (b : Book) (x : List ℕ) where
   pub call-good : (o : Order) → judged x ≡ Good o → call b x ≡ taken b o
   unfolding call call_judged
   call-good o h = rw h
+
+-- with a fault of the order the book is as before
+pub answers-fault : (b : Book) (x : List ℕ) (f : Fault) (r : Result ℕ Refusal) → IsErrAnd r (λ e. e ≡ Refusals.Fault f)
+    → judged x ≡ Refused (fault_number f) → Answers (told b.used r) b.bytes (call b x)
+answers-fault b x f (Ok n) h j = absurd h
+answers-fault b x f (Err e) h j = rw h (answers (told b.used (Err (Refusals.Fault f))) refl refl (call-refused b x _ j))

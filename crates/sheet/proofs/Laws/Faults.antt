@@ -1,11 +1,11 @@
 -- Laws of the tests of titles, values and keys, in a part of a buffer.
 use mathlib.Core.Path.{◌≡◌, refl}
-use mathlib.Core.Bool.{true, false, ◌||◌, or-true}
+use mathlib.Core.Bool.{true, false, ◌||◌}
 use mathlib.Core.List.{List, [], ◌∷◌, ◌++◌}
-use Prim.Native.Nat.{ℕ, ◌+◌, ◌-◌, ◌≤◌, ◌<◌}
+use Prim.Native.Nat.{ℕ, ◌-◌, ◌≤◌, ◌<◌}
 use lib.ListN.{length, get_or}
 use lib.Seq.{take-length}
-use borrow.Author.Tests.{eq-eqb, ne_eqb}
+use Rattle.std.specs.List.{list_any}
 use Rattle.text.specs.Bytes.{is_blank}
 use Rattle.text.specs.Runs.{word, same}
 use Rattle.text.specs.Parts.{part}
@@ -15,31 +15,10 @@ use Rattle.sheet.specs.Faults.{is_break, has_break, starts_blank, ends_blank, is
 
 -- ---- byte 10 or 13
 
-pub break-newline : (b : ℕ) → b ≡ 10 → is_break b ≡ true
-unfolding is_break
-break-newline b h = rw (eq-eqb b 10 h)
-
-pub break-return : (b : ℕ) → b ≡ 13 → is_break b ≡ true
-unfolding is_break
-break-return b h = rw (eq-eqb b 13 h, or-true)
-
-pub break-other : (b : ℕ) → (b ≡ 10 → ⊥) → (b ≡ 13 → ⊥) → is_break b ≡ false
-unfolding is_break
-break-other b h k = rw (ne_eqb b 10 h, ne_eqb b 13 k)
-
-module _ (x : List ℕ) (p e : ℕ) where
-  pub has_break-none : e ≤ p → has_break (part x p e) ≡ false
-  unfolding has_break
-  has_break-none h = rw (part-nil x p e h)
-
-  module _ (h : p < e) (k : e ≤ length x) where
-    pub has_break-here : is_break (get_or x p 0) ≡ true → has_break (part x p e) ≡ true
-    unfolding has_break
-    has_break-here i = rw (part-cons x p e h k, i)
-
-    pub has_break-skip : is_break (get_or x p 0) ≡ false → has_break (part x p e) ≡ has_break (part x (p + 1) e)
-    unfolding has_break
-    has_break-skip i = rw (part-cons x p e h k, i)
+pub has_break-any : (x : List ℕ) → list_any is_break x ≡ has_break x
+unfolding has_break
+has_break-any [] = refl
+has_break-any (b ∷ x) = rw (has_break-any x)
 
 -- ---- a blank byte at either end
 

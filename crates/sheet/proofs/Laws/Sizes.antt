@@ -88,7 +88,7 @@ module _ (x : List ℕ) (p n : ℕ) where
   unfolding pair_lines join
   lines_none h = rw (pairs_at-none x p n h)
 
-  pub lines_step : HasPairs x p n → 0 < n → (r : PairSpan) → PairAt x p r
-      → join (pair_lines (pairs_at x p n)) ≡ pair_line (pair_of x r) ++ join (pair_lines (pairs_at x r.end (n - 1)))
+  pub lines_step : (m : ℕ) → HasPairs x p n → n ≡ m + 1 → (r : PairSpan) → PairAt x p r
+      → join (pair_lines (pairs_at x p n)) ≡ pair_line (pair_of x r) ++ join (pair_lines (pairs_at x r.end m))
   unfolding pair_lines join
-  lines_step h k r a = rw (pairs-step x p n h k r a)
+  lines_step m h k r a = rw (pairs-step x p n m h k r a)

@@ -25,13 +25,13 @@ pub returns-then-end-gt-TEXT : goal.returns-then-end-gt-TEXT
 unfolding text
 returns-then-end-gt-TEXT c =
     let e = end _ _ _ c.is_ended-ended.ensures _ c.added_size.ensures.0 in
-    answers c.answered.ensures refl refl (appended-long _ _ (rw e at c.if-end-gt-TEXT.true))
+    answers _ refl refl (appended-long _ _ (rw e at c.if-end-gt-TEXT.true))
 
 pub returns-then-book-end : goal.returns-then-book-end
 unfolding text
 returns-then-book-end c =
     let e = end _ _ _ c.is_ended-ended.ensures _ c.added_size.ensures.0 in
-    answers c.answered-then-book-end.ensures refl refl (appended-short _ _ (rw e at c.if-end-gt-TEXT.false) (rw e at c.if-book-end.true))
+    answers _ refl refl (appended-short _ _ (rw e at c.if-end-gt-TEXT.false) (rw e at c.if-book-end.true))
 
 pub returns : goal.returns
 unfolding extended text
@@ -41,5 +41,5 @@ returns c =
     let e = end _ _ _ c.is_ended-ended.ensures _ c.added_size.ensures.0 in
     let k = length book - used in
     let left = ap (put_mid used k book) (c.put_added.ensures ∙ ap (laid (mid_of used k book) 0) (written _ _ _ c.is_ended-ended.ensures)) in
-    answers c.answered-2.ensures e (left ∙ laid-lent book used _ c.requires.1)
+    answers _ e (left ∙ laid-lent book used _ c.requires.1)
     (appended-done _ _ (rw e at c.if-end-gt-TEXT.false) (rw e at c.if-book-end.false))

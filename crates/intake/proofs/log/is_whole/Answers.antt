@@ -16,10 +16,10 @@ returns-in_default c =
 pub loop-at-preserved : goal.loop-at-preserved
 loop-at-preserved c =
     let l = c.loop-at in
-    let o = c.in-At.ensures in
+    let o = c.in-Some.ensures in
     let log = c.args.log.now in
-    let a = c.in-At.field-0 in
-    let e = c.in-At.to in
+    let a = c.in-Some.order.from in
+    let e = c.in-Some.order.to in
     let first = orders-step log l.at c.loop-at-test.true (part log a e) e o.4 in
     (o.3, sym (ap is_some first ∙ is_some-before (part log a e) (orders_in (drop e log))) ∙ l.invariant.1)
 

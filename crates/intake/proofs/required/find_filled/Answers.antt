@@ -8,14 +8,14 @@ use Rattle.text.proofs.Laws.Parts.{part-nil}
 use Rattle.intake.specs.Required.{value_of}
 use Rattle.intake.proofs.required.find_filled.Goals as goal
 
-pub returns-in_default : goal.returns-in_default
+pub returns-in_err-value : goal.returns-in_err-value
 unfolding value_of is_empty
-returns-in_default c = ap (λ v. is_empty (get_or v [])) c.in_default.ensures
+returns-in_err-value c = rw c.from_residual.ensures (ap (λ v. is_empty (get_or v [])) c.in_err-value.ensures)
 
-pub returns-then-to-from : goal.returns-then-to-from
+pub returns-then-value : goal.returns-then-value
 unfolding value_of is_empty
-returns-then-to-from c = ap (λ v. is_empty (get_or v [])) c.in-At.ensures.2 ∙ ap is_empty (part-nil _ _ _ c.if-to-from.true)
+returns-then-value c = ap (λ v. is_empty (get_or v [])) c.in_ok-value.ensures.2 ∙ ap is_empty (part-nil _ _ _ c.if-value.true)
 
 pub returns : goal.returns
 unfolding value_of
-returns c = (omega (arith, c.if-to-from.false), c.in-At.ensures.1, ap (λ v. get_or v []) c.in-At.ensures.2)
+returns c = (omega (arith, c.if-value.false), c.in_ok-value.ensures.1, ap (λ v. get_or v []) c.in_ok-value.ensures.2)

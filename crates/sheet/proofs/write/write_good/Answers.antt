@@ -5,17 +5,14 @@ use Rattle.sheet.proofs.write.write_good.Goals as goal
 
 pub returns-then-size-gt-TEXT : goal.returns-then-size-gt-TEXT
 returns-then-size-gt-TEXT c =
-    let size = c.sheet_size-size.ensures.0 in
-    answers c.answered.ensures refl (put_out-long _ _ (rw size at c.if-size-gt-TEXT.true))
+    let size = c.sheet_size-size.ensures.0 in answers _ refl (put_out-long _ _ (rw size at c.if-size-gt-TEXT.true))
 
 pub returns-then-out-size : goal.returns-then-out-size
 returns-then-out-size c =
     let size = c.sheet_size-size.ensures.0 in
-    answers (rw size at c.answered-then-out-size.ensures) refl
-    (put_out-short _ _ (rw size at c.if-size-gt-TEXT.false) (rw size at c.if-out-size.true))
+    answers _ refl (rw size (put_out-short _ _ (rw size at c.if-size-gt-TEXT.false) (rw size at c.if-out-size.true)))
 
 pub returns : goal.returns
 returns c =
     let size = c.sheet_size-size.ensures.0 in
-    answers (rw size at c.answered-2.ensures) c.put_sheet.ensures.output
-    (put_out-done _ _ (rw size at c.if-size-gt-TEXT.false) (rw size at c.if-out-size.false))
+    answers _ c.put_sheet.ensures.output (rw size (put_out-done _ _ (rw size at c.if-size-gt-TEXT.false) (rw size at c.if-out-size.false)))
