@@ -1,12 +1,12 @@
 // The list of headings, three numbers each.
-ghost use Rattle.std.specs.Prelude.{◌≡◌, ◌+◌, ◌≤◌, length};
+ghost use Rattle.std.specs.Prelude.{◌≡◌, ◌+◌, ◌≤◌, length, option_to_list};
 ghost use Rattle.std.proofs.lemmas.List.Edits.{sets};
 ghost use Rattle.stream.specs.Headings.{heading_size, numbers_of, numbers};
 ghost use Rattle.stream.specs.Steps as spec;
-ghost use Rattle.stream.specs.Spans.{headings_of, Within};
+ghost use Rattle.stream.specs.Spans.{Within};
 
 use crate::advance::advance;
-use crate::heading::{Finished, Heading, count_of};
+use crate::heading::Heading;
 use crate::state::Stream;
 
 // How many numbers a heading has, as specs/Headings has it.
@@ -17,18 +17,16 @@ fn put_heading(list: &mut [u32], at: usize, heading: Heading)
     requires { at + heading_size ≤ length list.old }
     ensures { list.new ≡ sets list.old at (numbers_of heading) }
 {
-    list[at] = heading.start;
-    list[at + 1] = heading.stars;
-    list[at + 2] = heading.title;
+    list[at..at + SIZE].copy_from_slice(&[heading.start, heading.stars, heading.title]);
 }
 
-// What a finished line gives, written from an index on; gives the index after it.
-pub fn put(list: &mut [u32], at: usize, finished: Finished) -> usize
-    requires { at + length (numbers (headings_of finished)) ≤ length list.old }
-    ensures value { result ≡ at + length (numbers (headings_of finished)) }
-    ensures list_after { list.new ≡ sets list.old at (numbers (headings_of finished)) }
+// A finished heading, if there is one, written from an index on; gives the index after it.
+pub fn put(list: &mut [u32], at: usize, finished: Option<Heading>) -> usize
+    requires { at + length (numbers (option_to_list finished)) ≤ length list.old }
+    ensures value { result ≡ at + length (numbers (option_to_list finished)) }
+    ensures list_after { list.new ≡ sets list.old at (numbers (option_to_list finished)) }
 {
-    let Finished::Line(heading) = finished else {
+    let Some(heading) = finished else {
         return at;
     };
     put_heading(list, at, heading);
@@ -45,8 +43,7 @@ pub fn count_finished(state: Stream, bytes: &[u8]) -> usize
     let mut n = 0;
     while at < bytes.len() {
         let next = advance(now, bytes, at);
-        let finished = next.finished;
-        n += count_of(finished);
+        n += usize::from(next.finished.is_some());
         now = next.state;
         at = next.at;
     }
@@ -64,8 +61,7 @@ pub fn put_finished(state: Stream, bytes: &[u8], list: &mut [u32]) -> Stream
     let mut to = 0;
     while at < bytes.len() {
         let next = advance(now, bytes, at);
-        let finished = next.finished;
-        to = put(list, to, finished);
+        to = put(list, to, next.finished);
         now = next.state;
         at = next.at;
     }
