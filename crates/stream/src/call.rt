@@ -2,7 +2,7 @@ ghost use Rattle.std.specs.Prelude.{◌≡◌};
 ghost use Rattle.stream.specs.Promises.{Settled, EndSettled};
 
 use crate::heading::heading_of;
-use crate::list::{SIZE, count_finished, put, put_finished};
+use crate::list::{SIZE, count_finished, put_finished, put_heading};
 use crate::state::{Stream, is_open, with_end};
 use text::{limit, number};
 
@@ -57,6 +57,8 @@ pub fn end(state: Stream, list: &mut [u32]) -> Streamed
     if list.len() / SIZE < count {
         return answered(state, number::NO_ROOM, count);
     }
-    put(list, 0, finished);
+    if let Some(heading) = finished {
+        put_heading(list, 0, heading);
+    }
     answered(with_end(state), number::DONE, count)
 }

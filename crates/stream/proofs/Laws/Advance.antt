@@ -12,7 +12,7 @@ use borrow.Author.Tests.{eqb-true, eqb-false, not-false}
 use Rattle.std.specs.Prelude.{option_to_list}
 use Rattle.text.specs.Bytes.{is_not}
 use Rattle.text.specs.Parts.{part}
-use Rattle.text.specs.Runs.{all, run}
+use Rattle.text.specs.Runs.{run}
 use Rattle.text.proofs.Basics.{take-drop}
 use Rattle.text.proofs.Laws.Parts.{part_length}
 use Rattle.text.proofs.Laws.Runs.{run-cons, run_none, run_take, run-part-to}
