@@ -64,6 +64,10 @@ cell_size = 11
 abbrev pub line_size : ℕ
 line_size = record_size * cell_size
 
+-- what is printed for a table of 16,384 numbers has room in so many bytes
+abbrev pub page_size : ℕ
+page_size = 180224
+
 -- opens the definitions of this file and of those it stands on, for computed examples
 unfoldable pub OpenPrinted : Type 1
 unfolding OpenAnswers digits_up_to decimal line record_lines refused

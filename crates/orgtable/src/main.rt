@@ -3,12 +3,13 @@
 
 mod input;
 mod output;
+mod page;
 mod trouble;
 mod usage;
 
 ghost use Rattle.orgtable.specs.Output.{PrintsTable};
 
-use input::{Input, read_input};
+use input::read_input;
 use output::print_input;
 use std::io::{Read, Write};
 use std::rt::Env;
@@ -21,11 +22,10 @@ pub fn print_table<R: Read, W: Write>(from: &mut R, to: &mut W) -> Result<(), Tr
 {
     let mut buffer = [0u8; 65536];
     let mut table = [0u32; 16384];
-    let input = read_input(from, &mut buffer);
-    if let Input::Failed = input {
+    let Ok(used) = read_input(from, &mut buffer) else {
         return Err(Trouble::Unread);
-    }
-    print_input(to, input, &buffer, &mut table)
+    };
+    print_input(to, used, &buffer, &mut table)
 }
 
 // Does what the argument asks for.

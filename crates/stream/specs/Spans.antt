@@ -1,20 +1,13 @@
 -- What the functions that go through a piece do. No promise of an entry point rests on this.
-use Rattle.std.specs.Prelude.{◌≡◌, true, List, [], ◌∷◌, ◌++◌, ℕ, ◌+◌, ◌-◌, ◌≤◌, ◌<◌, length, get_or, drop}
+use Rattle.std.specs.Prelude.{◌≡◌, true, Option, IfNone, option_to_list, List, ◌++◌, ℕ, ◌+◌, ◌-◌, ◌≤◌, ◌<◌, length, get_or, drop}
 use Rattle.text.specs.Bytes.{is_not}
 use Rattle.text.specs.Runs.{all}
 use Rattle.text.specs.Parts.{part}
 use Rattle.text.specs.Limits.{text_limit}
 use Rattle.stream.specs.declared.state.Stream.{Stream}
 use Rattle.stream.specs.declared.heading.Heading.{Heading}
-use Rattle.stream.specs.declared.heading.Finished.{Finished}
-use Rattle.stream.specs.declared.heading.Finished.TheVariants.{Line, Nothing}
 use Rattle.stream.specs.declared.advance.Progress.{Progress}
 use Rattle.stream.specs.Steps.{fed, finished}
-
--- the heading that is finished, as a list
-unfoldable pub headings_of : Finished → List Heading
-headings_of (Line h) = h ∷ []
-headings_of Nothing = []
 
 -- The bytes of piece x from byte i on have room in the book, the unfinished line is of the bytes before them, and its stars are
 -- of the line.
@@ -55,4 +48,10 @@ pub record Advances (c : Stream) (x : List ℕ) (i : ℕ) (r : Progress) : Type 
   pub inside : r.at ≤ length x
   pub within : Within r.state x r.at
   pub state : fed c (drop i x) ≡ fed r.state (drop r.at x)
-  pub headings : finished c (drop i x) ≡ headings_of r.finished ++ finished r.state (drop r.at x)
+  pub headings : finished c (drop i x) ≡ option_to_list r.finished ++ finished r.state (drop r.at x)
+
+-- From state c and byte i of piece x on, the next heading that is finished is r, and the state d is there before byte j; with none, x is read.
+pub record NextHeading (c : Stream) (x : List ℕ) (i : ℕ) (r : Option Heading) (d : Stream) (j : ℕ) : Type 0 where
+  pub state : fed c (drop i x) ≡ fed d (drop j x)
+  pub headings : finished c (drop i x) ≡ option_to_list r ++ finished d (drop j x)
+  pub ended : IfNone r (length x ≤ j)

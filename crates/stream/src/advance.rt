@@ -4,17 +4,17 @@ ghost use Rattle.text.specs.Limits.{text_limit};
 ghost use Rattle.stream.specs.Steps as spec;
 ghost use Rattle.stream.specs.Spans.{Within, Bare, more_stars, MoreOfLine, LastLine, Advances};
 
-use crate::heading::{Finished, heading_of};
+use crate::heading::{Heading, heading_of};
 use crate::state::Stream;
 use rules::heading::next_star_line;
 use text::bytes::{Class, find_byte, run_end, trim_end};
 
-// The state after some bytes more, where the next byte stands, and what they finish.
+// The state after some bytes more, where the next byte stands, and the heading that they finish, if any.
 #[derive(Clone, Copy)]
 pub struct Progress {
     pub state: Stream,
     pub at: usize,
-    pub finished: Finished,
+    pub finished: Option<Heading>,
 }
 
 // The state after a byte 10.
@@ -27,7 +27,7 @@ fn next_line(state: Stream) -> Stream
         line: 0,
         stars: 0,
         title: 0,
-        ended: state.ended,
+        ..state
     }
 }
 
@@ -47,8 +47,7 @@ fn begin_line(state: Stream, b: u8) -> Stream
             32 => state.stars,
             _ => 0,
         },
-        title: state.title,
-        ended: state.ended,
+        ..state
     }
 }
 
@@ -62,8 +61,7 @@ fn with_stars(state: Stream, n: usize) -> Stream
         total: state.total + size,
         line: state.line + size,
         stars: state.stars + size,
-        title: state.title,
-        ended: state.ended,
+        ..state
     }
 }
 
@@ -78,13 +76,13 @@ fn pass_stars(state: Stream, bytes: &[u8], at: usize) -> Progress
         return Progress {
             state: stars,
             at: end,
-            finished: Finished::Nothing,
+            finished: None,
         };
     }
     Progress {
         state: begin_line(stars, bytes[end]),
         at: end + 1,
-        finished: Finished::Nothing,
+        finished: None,
     }
 }
 
@@ -109,9 +107,8 @@ fn go_on(state: Stream, bytes: &[u8], from: usize, to: usize) -> Stream
     Stream {
         total: state.total + more,
         line: state.line + more,
-        stars: state.stars,
         title: title_after(state, bytes, from, to),
-        ended: state.ended,
+        ..state
     }
 }
 
@@ -126,7 +123,7 @@ fn pass_heading(state: Stream, bytes: &[u8], at: usize) -> Progress
         return Progress {
             state: line,
             at: newline,
-            finished: Finished::Nothing,
+            finished: None,
         };
     }
     Progress {
@@ -141,14 +138,12 @@ fn last_line(bytes: &[u8], from: usize, to: usize) -> usize
     requires { (from ≤ to) × (to ≤ length bytes.now) }
     ensures { LastLine bytes.now from to result }
 {
-    let mut i = to;
-    while from < i {
-        if bytes[i - 1] == 10 {
-            return i;
+    for i in (from..to).rev() {
+        if bytes[i] == 10 {
+            return i + 1;
         }
-        i -= 1;
     }
-    i
+    from
 }
 
 // Past lines that are none of a heading, to the next that starts with a star, or to the piece's end.
@@ -159,29 +154,21 @@ fn pass_lines(state: Stream, bytes: &[u8], at: usize) -> Progress
     let end = next_star_line(bytes, at + 1);
     let start = last_line(bytes, at, end);
     let size = (end - at) as u32;
-    if start <= at {
-        return Progress {
-            state: Stream {
-                total: state.total + size,
-                line: state.line + size,
-                stars: 0,
-                title: state.title,
-                ended: state.ended,
-            },
-            at: end,
-            finished: Finished::Nothing,
-        };
-    }
+    let (line, title) = if start <= at {
+        (state.line + size, state.title)
+    } else {
+        ((end - start) as u32, 0)
+    };
     Progress {
         state: Stream {
             total: state.total + size,
-            line: (end - start) as u32,
+            line,
             stars: 0,
-            title: 0,
-            ended: state.ended,
+            title,
+            ..state
         },
         at: end,
-        finished: Finished::Nothing,
+        finished: None,
     }
 }
 

@@ -1,12 +1,13 @@
 ghost use Rattle.std.specs.Prelude.{◌≡◌};
 ghost use Rattle.stream.specs.Promises.{Settled, EndSettled};
 
-use crate::heading::{count_of, heading_of};
-use crate::list::{SIZE, count_finished, put, put_finished};
+use crate::heading::heading_of;
+use crate::list::{SIZE, count_finished, put_finished, put_heading};
 use crate::state::{Stream, is_open, with_end};
 use text::{limit, number};
 
-// The state after a call, the number of its answer, and a count of headings: those written, or with 3 those there is no room for.
+// The state after a call, the number of its answer, and a count of headings: those written, or with 3 those there is no room for. The C interface
+// hands it out as it is, hence a number and no `Result`.
 #[repr(C)]
 #[derive(Clone, Copy)]
 pub struct Streamed {
@@ -19,9 +20,9 @@ fn answered(state: Stream, number: u32, count: usize) -> Streamed
     ensures { result ≡ record { state = state; number = number; count = count } }
 {
     Streamed {
-        state: state,
-        number: number,
-        count: count,
+        state,
+        number,
+        count,
     }
 }
 
@@ -52,10 +53,12 @@ pub fn end(state: Stream, list: &mut [u32]) -> Streamed
         return answered(state, number::NOT_OPEN, 0);
     }
     let finished = heading_of(state);
-    let count = count_of(finished);
+    let count = usize::from(finished.is_some());
     if list.len() / SIZE < count {
         return answered(state, number::NO_ROOM, count);
     }
-    put(list, 0, finished);
+    if let Some(heading) = finished {
+        put_heading(list, 0, heading);
+    }
     answered(with_end(state), number::DONE, count)
 }

@@ -1,6 +1,5 @@
-ghost use Rattle.std.specs.Prelude.{◌≡◌, ◌≤◌, length};
+ghost use Rattle.std.specs.Prelude.{◌≡◌, ◌≤◌, option_to_list};
 ghost use Rattle.stream.specs.Steps as spec;
-ghost use Rattle.stream.specs.Spans.{headings_of};
 
 use crate::state::{Stream, in_heading};
 
@@ -12,34 +11,14 @@ pub struct Heading {
     pub title: u32,
 }
 
-// What a line that is finished gives: a heading, or nothing.
-#[derive(Clone, Copy)]
-pub enum Finished {
-    Line(Heading),
-    Nothing,
-}
-
-// What the unfinished line gives where it is finished as it stands.
-pub fn heading_of(state: Stream) -> Finished
+// The heading of the unfinished line, if it is one, where it is finished as it stands.
+pub fn heading_of(state: Stream) -> Option<Heading>
     requires { state.line ≤ state.total }
-    ensures { headings_of result ≡ spec.last_heading state }
+    ensures { option_to_list result ≡ spec.last_heading state }
 {
-    if in_heading(state) {
-        return Finished::Line(Heading {
-            start: state.total - state.line,
-            stars: state.stars,
-            title: state.title,
-        });
-    }
-    Finished::Nothing
-}
-
-// How many headings that is.
-pub fn count_of(finished: Finished) -> usize
-    ensures { result ≡ length (headings_of finished) }
-{
-    match finished {
-        Finished::Line(_) => 1,
-        Finished::Nothing => 0,
-    }
+    in_heading(state).then_some(Heading {
+        start: state.total - state.line,
+        stars: state.stars,
+        title: state.title,
+    })
 }

@@ -6,7 +6,8 @@ ghost use Rattle.stream.specs.Call as call;
 use text::limit;
 
 // What is known of a book after some of its bytes: how many they are; of the line that is not finished its bytes, its stars while it is or may be a
-// heading line, and the length of its title; and whether the end has been declared: 0 if not.
+// heading line, and the length of its title; and whether the end has been declared: 0 if not, a number because the C interface hands
+// this struct out as it is.
 #[repr(C)]
 #[derive(Clone, Copy)]
 pub struct Stream {
@@ -63,11 +64,5 @@ pub fn is_open(state: Stream) -> bool
 pub fn with_end(state: Stream) -> Stream
     ensures { result ≡ with_end state }
 {
-    Stream {
-        total: state.total,
-        line: state.line,
-        stars: state.stars,
-        title: state.title,
-        ended: 1,
-    }
+    Stream { ended: 1, ..state }
 }

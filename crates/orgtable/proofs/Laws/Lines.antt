@@ -5,10 +5,9 @@ use mathlib.Core.List.{List, [], ◌∷◌, ◌++◌, append_assoc, append-nil}
 use Prim.Native.Nat.{ℕ, suc, ◌+◌, ◌-◌, ◌*◌, ◌≤◌, ◌<◌}
 use native.Mathlib.Numerals.{add-one}
 use native.Mathlib.Omega.{arith}
-use lib.ListN.{length, drop, get_or}
+use lib.ListN.{length, take, drop, get_or}
 use lib.Seq.{slice, slice-cons, slice_empty, drop-drop}
 use Rattle.table.specs.Records.{record_size}
-use Rattle.text.proofs.Basics.{take-drop}
 use Rattle.text.specs.Runs.{word}
 use Rattle.orgtable.specs.Printed.{newline, space, decimal, line, record_lines, refused}
 
@@ -34,12 +33,12 @@ module _ (t : List ℕ) (i e : ℕ) (x x₁ w : List ℕ) (all : x ++ line (slic
 
 -- of the lines of n records, x is put, those before record i; x₁ with record i
 module _ (t : List ℕ) (i n : ℕ) (x w : List ℕ) (all : x ++ record_lines (n - i) (drop (i * record_size) t) ≡ w) where
-  pub lines-turn : (x₁ : List ℕ) → i < n → x₁ ≡ x ++ line (slice (i * record_size) (i * record_size + record_size) t) → x₁ ++ record_lines (n - (i + 1)) (drop ((i + 1) * record_size) t) ≡ w
+  pub lines-turn : (x₁ : List ℕ) → i < n → x₁ ≡ x ++ line (take record_size (drop (i * record_size) t)) → x₁ ++ record_lines (n - (i + 1)) (drop ((i + 1) * record_size) t) ≡ w
   unfolding record_lines
   lines-turn x₁ h one =
       let e : n - i ≡ suc (n - (i + 1)) = omega arith in
       let f : (i + 1) * record_size ≡ i * record_size + record_size = omega arith in
-      let more = rw (e, drop-drop record_size (i * record_size) t, take-drop record_size (i * record_size) t) at all in
+      let more = rw (e, drop-drop record_size (i * record_size) t) at all in
       rw (one, f) (simp append_assoc more)
 
   pub lines_end : n ≤ i → x ≡ w
@@ -48,12 +47,12 @@ module _ (t : List ℕ) (i n : ℕ) (x w : List ℕ) (all : x ++ record_lines (n
       let e : n - i ≡ 0 = omega arith in
       rw (e, append-nil) at all
 
--- the line of a refusal of number n, put in parts
-pub refused-alone : (n : ℕ) (x x₁ : List ℕ) → x ≡ word "refused " ++ decimal n → x₁ ≡ x ++ newline ∷ [] → x₁ ≡ refused (n ∷ [])
-unfolding refused line
-refused-alone n x x₁ number end = rw (end, number) (append_assoc (word "refused ") (decimal n) (newline ∷ []))
+-- the line of a refusal of number n, put in parts after w
+module _ (w : List ℕ) (n : ℕ) (x : List ℕ) (number : x ≡ w ++ word "refused " ++ decimal n) where
+  pub refused-alone : (x₁ : List ℕ) → x₁ ≡ x ++ newline ∷ [] → x₁ ≡ w ++ refused (n ∷ [])
+  unfolding refused line
+  refused-alone x₁ end = rw (end, number) (simp append_assoc)
 
-pub refused-with : (n m : ℕ) (x x₁ x₂ x₃ : List ℕ) → x ≡ word "refused " ++ decimal n → x₁ ≡ x ++ space ∷ [] → x₂ ≡ x₁ ++ decimal m → x₃ ≡ x₂ ++ newline ∷ []
-    → x₃ ≡ refused (n ∷ m ∷ [])
-unfolding refused line
-refused-with n m x x₁ x₂ x₃ number after count end = rw (end, count, after, number) (simp append_assoc)
+  pub refused-with : (m : ℕ) (x₁ x₂ x₃ : List ℕ) → x₁ ≡ x ++ space ∷ [] → x₂ ≡ x₁ ++ decimal m → x₃ ≡ x₂ ++ newline ∷ [] → x₃ ≡ w ++ refused (n ∷ m ∷ [])
+  unfolding refused line
+  refused-with m x₁ x₂ x₃ after count end = rw (end, count, after, number) (simp append_assoc)

@@ -6,15 +6,13 @@ use native.Mathlib.Omega.{arith}
 use lib.ListN.{length, take, replicate}
 use Rattle.std.proofs.lemmas.List.{length-replicate}
 use borrow.Author.Tests.{lt-leb}
-use Rattle.std.specs.Prelude.{Err, Some, None, Result}
+use Rattle.std.specs.Prelude.{Ok, Err, Some, None, Result}
 use Rattle.std.specs.Io.KnownBytes.{Keeps}
 use Rattle.std.specs.declared.option.Option.{Option}
 use Rattle.text.specs.Limits.{text_limit}
 use Rattle.reading.specs.Answers.{answer, answer_for}
 use Rattle.orgtable.specs.declared.trouble.Trouble.{Trouble}
 use Rattle.orgtable.specs.declared.trouble.Trouble.TheVariants.{Unread}
-use Rattle.orgtable.specs.declared.input.Input.{Input}
-use Rattle.orgtable.specs.declared.input.Input.TheVariants.{Bytes, TooLong, Failed}
 use Rattle.orgtable.specs.Input.{InputHolds, printed_input}
 use Rattle.orgtable.specs.Printed.{refused, printed_text}
 use Rattle.orgtable.specs.Output.{IsPrinted, PrintsTable}
@@ -35,13 +33,14 @@ unfolding answer answer_for
 too_long s t h = rw (lt-leb (length s) text_limit h)
 
 -- Of a buffer that holds the longest text.
-pub printed-whole : (i : Input) (known old new : Option (List ℕ)) (b : List ℕ) (r : Result Unit Trouble) → length b ≡ text_limit → (i ≡ Failed → ⊥)
-    → InputHolds i known b → IsPrinted r old new (printed_input i b (replicate 16384 0)) → PrintsTable r known old new
+pub printed-whole : {E : Type 0} (r : Result (Option ℕ) E) (o : Option ℕ) (known old new : Option (List ℕ)) (b : List ℕ) (w : Result Unit Trouble)
+    → length b ≡ text_limit → r ≡ Ok o → InputHolds r known b → IsPrinted w old new (printed_input o b (replicate 16384 0)) → PrintsTable w known old new
 unfolding InputHolds printed_input PrintsTable
-printed-whole (Bytes k) None old new b r long was_read holds printed = (take k b, printed)
-printed-whole (Bytes k) (Some s) old new b r long was_read holds printed = rw holds at printed
-printed-whole TooLong None old new b r long was_read holds printed =
+printed-whole r (Some k) None old new b w long is holds printed = (take k b, printed)
+printed-whole r (Some k) (Some s) old new b w long is holds printed = rw (rw is at holds) at printed
+printed-whole r None None old new b w long is holds printed =
     let s = replicate (text_limit + 1) 0 in
     (s, rw (too_long s (replicate 16384 0) (omega (arith, length-replicate {A = ℕ} (text_limit + 1) 0))) printed)
-printed-whole TooLong (Some s) old new b r long was_read holds printed = rw (too_long s (replicate 16384 0) (omega arith)) printed
-printed-whole Failed known old new b r long was_read holds printed = absurd (was_read refl)
+printed-whole r None (Some s) old new b w long is holds printed =
+    let longer : length b < length s = rw is at holds in
+    rw (too_long s (replicate 16384 0) (omega arith)) printed

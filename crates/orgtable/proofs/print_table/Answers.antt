@@ -3,9 +3,8 @@
 use Rattle.orgtable.proofs.Laws.Texts.{unread, printed-whole}
 use Rattle.orgtable.proofs.print_table.Goals as goal
 
-pub returns-in-Failed : goal.returns-in-Failed
-returns-in-Failed g c = unread _ _
+pub returns-in_default : goal.returns-in_default
+returns-in_default g c = unread _ _
 
 pub returns : goal.returns
-returns g c =
-    printed-whole _ _ _ _ _ _ c.read_input-input.auto.buffer c.in_default.not-Failed c.read_input-input.ensures.bytes c.print_input.ensures
+returns g c = printed-whole _ _ _ _ _ _ _ c.read_input.auto.buffer c.in-Ok.is c.read_input.ensures.bytes c.print_input.ensures

@@ -9,25 +9,26 @@ use lib.Seq.{take-length, length-take-le, drop-cons, drop-append-le, get_or-drop
 use lib.Dec.{eqb}
 use borrow.Table.Steps.{cases}
 use borrow.Author.Tests.{eqb-true, eqb-false, not-false}
+use Rattle.std.specs.Prelude.{option_to_list}
 use Rattle.text.specs.Bytes.{is_not}
 use Rattle.text.specs.Parts.{part}
-use Rattle.text.specs.Runs.{all, run}
+use Rattle.text.specs.Runs.{run}
 use Rattle.text.proofs.Basics.{take-drop}
 use Rattle.text.proofs.Laws.Parts.{part_length}
 use Rattle.text.proofs.Laws.Runs.{run-cons, run_none, run_take, run-part-to}
 use Rattle.rules.proofs.Laws.Blocks.{run-all}
 use Rattle.stream.specs.declared.state.Stream.{Stream}
 use Rattle.stream.specs.declared.heading.Heading.{Heading}
-use Rattle.stream.specs.declared.heading.Finished.{Finished}
-use Rattle.stream.specs.declared.heading.Finished.TheVariants.{Nothing}
+use Rattle.std.specs.declared.option.Option.{Option}
+use Rattle.std.specs.declared.option.Option.TheVariants.{None}
 use Rattle.stream.specs.declared.advance.Progress.{Progress}
 use Rattle.stream.specs.Steps.{last_heading, next_line, stepped, finished_by, fed, finished}
-use Rattle.stream.specs.Spans.{headings_of, Within, MoreOfLine, Advances}
+use Rattle.stream.specs.Spans.{Within, MoreOfLine, Advances}
 use Rattle.stream.proofs.Laws.GoesOn.{further, fed-further, finished-none}
 use Rattle.stream.proofs.Laws.Steps.{heading-front, last-no, stepped-newline, stepped-star, stepped-space, stepped-none}
 use Rattle.stream.proofs.Laws.Steps.{finished-newline, finished-other, fed-append, finished-append}
 
-abbrev pub progress : Stream → ℕ → Finished → Progress
+abbrev pub progress : Stream → ℕ → Option Heading → Progress
 progress c i f = record { state = c; at = i; finished = f }
 
 drop-next : (x : List ℕ) (i : ℕ) → i < length x → drop i x ≡ get_or x i 0 ∷ drop (i + 1) x
@@ -62,8 +63,7 @@ module _
         ∙ ap (λ (hs : List Heading). hs ++ finished (fed c (part x i e)) (drop e x)) none
         ∙ ap (λ (a : Stream). finished a (drop e x)) (sym h)
 
-    pub advance-past : i < e → Within d x e → Advances c x i (progress d e Nothing)
-    unfolding headings_of
+    pub advance-past : i < e → Within d x e → Advances c x i (progress d e None)
     advance-past l w = record { further = l; inside = to; within = w; state = passed-state; headings = passed-headings }
 
     pub advance-then : {r : Progress} → Advances d x e r → Advances c x i r
@@ -98,8 +98,8 @@ module _ (c : Stream) (b : ℕ) (front : c.stars ≡ c.line) where
       (λ v. rw (stepped-none c b no front (eqb-false b 42 u) (eqb-false b 32 v)) (omega arith, omega arith, omega arith))))
 
 module _ (c : Stream) (x : List ℕ) (i : ℕ) (w : Within c x i) (k : i < length x) where
-  pub advance-front : c.stars ≡ c.line → {r : Stream} → r ≡ stepped c (get_or x i 0) → Advances c x i (progress r (i + 1) Nothing)
-  unfolding fed finished headings_of
+  pub advance-front : c.stars ≡ c.line → {r : Stream} → r ≡ stepped c (get_or x i 0) → Advances c x i (progress r (i + 1) None)
+  unfolding fed finished
   advance-front front h =
       let b = get_or x i 0 in
       let bounds = front-in-line c b front in
@@ -171,7 +171,7 @@ module _ (c : Stream) (x : List ℕ) (i : ℕ) (w : Within c x i) (k : i < lengt
       none = finished-none c (part x i e) more-of-line.bytes
 
       -- the piece ends in the line
-      pub advance-piece : length x ≤ e → Advances c x i (progress r e Nothing)
+      pub advance-piece : length x ≤ e → Advances c x i (progress r e None)
       advance-piece l = advance-past c x i e more-of-line.from to h none (omega (arith, l)) within-line
 
       -- byte 10 ends it
@@ -185,7 +185,7 @@ module _ (c : Stream) (x : List ℕ) (i : ℕ) (w : Within c x i) (k : i < lengt
             let stop : is_not 10 (get_or x e 0) ≡ false = rw end (rw (get_or-drop i x n 0) at (run-stop (is_not 10) y short)) in
             eqb-true (get_or x e 0) 10 (not-false (eqb (get_or x e 0) 10) stop)
 
-        pub advance-line : {r' : Stream} {f : Finished} → r' ≡ next_line r → headings_of f ≡ last_heading r → Advances c x i (progress r' (e + 1) f)
+        pub advance-line : {r' : Stream} {f : Option Heading} → r' ≡ next_line r → option_to_list f ≡ last_heading r → Advances c x i (progress r' (e + 1) f)
         unfolding fed finished
         advance-line u v =
             let b = get_or x e 0 in

@@ -6,17 +6,18 @@ use native.Mathlib.Omega.{arith}
 use native.Mathlib.Nat.{zero-add}
 use lib.ListN.{length, set}
 use lib.Seq.{sets, sets-eq}
+use Rattle.std.specs.Int.{from_bool}
+use Rattle.std.specs.Prelude.{Bool, is_some, option_to_list}
 use Rattle.stream.specs.declared.heading.Heading.{Heading}
-use Rattle.stream.specs.declared.heading.Finished.{Finished}
-use Rattle.stream.specs.declared.heading.Finished.TheVariants.{Line, Nothing}
+use Rattle.std.specs.declared.option.Option.{Option}
+use Rattle.std.specs.declared.option.Option.TheVariants.{Some, None}
 use Rattle.stream.specs.Headings.{heading_size, numbers_of, numbers}
 use Rattle.stream.specs.Call.{room, written}
-use Rattle.stream.specs.Spans.{headings_of}
 
-pub finished-one : (f : Finished) → length (headings_of f) ≤ 1
-unfolding headings_of
-finished-one (Line h) = omega arith
-finished-one Nothing = omega arith
+-- a heading that is finished, counted
+pub count-one : (f : Option Heading) (b : Bool) → b ≡ is_some f → from_bool b ≡ length (option_to_list f)
+count-one (Some h) b i = rw i refl
+count-one None b i = rw i refl
 
 pub numbers-append : (hs ks : List Heading) → numbers (hs ++ ks) ≡ numbers hs ++ numbers ks
 unfolding numbers

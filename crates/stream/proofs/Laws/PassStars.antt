@@ -14,7 +14,7 @@ use Rattle.text.proofs.Laws.Parts.{part_length}
 use Rattle.text.proofs.Laws.Runs.{run-part-to, run-part}
 use Rattle.rules.proofs.Laws.Blocks.{run-all}
 use Rattle.stream.specs.declared.state.Stream.{Stream}
-use Rattle.stream.specs.declared.heading.Finished.TheVariants.{Nothing}
+use Rattle.std.specs.declared.option.Option.TheVariants.{None}
 use Rattle.stream.specs.Steps.{stepped, fed, finished}
 use Rattle.stream.specs.Spans.{Within, more_stars, Advances}
 use Rattle.stream.proofs.Laws.Steps.{stepped-star, finished-other}
@@ -65,10 +65,10 @@ module _ (c : Stream) (x : List ℕ) (i : ℕ) (w : Within c x i) (k : i < lengt
       within : Within r x e
       within = rw h (record { stars = omega (arith, w.stars); line = omega (arith, w.line); total = omega (arith, w.total, from, stars-to) })
 
-      pub advance-stars : length x ≤ e → Advances c x i (progress r e Nothing)
+      pub advance-stars : length x ≤ e → Advances c x i (progress r e None)
       advance-stars l = advance-past c x i e from stars-to passed none (omega (arith, l)) within
 
-      pub advance-byte : e < length x → {r' : Stream} → r' ≡ stepped r (get_or x e 0) → Advances c x i (progress r' (e + 1) Nothing)
+      pub advance-byte : e < length x → {r' : Stream} → r' ≡ stepped r (get_or x e 0) → Advances c x i (progress r' (e + 1) None)
       advance-byte l u =
           let same : r.stars ≡ r.line = rw h (ap (λ (n : ℕ). n + (e - i)) front) in
           advance-then c x i e from stars-to passed none (advance-front r x e within l same u)

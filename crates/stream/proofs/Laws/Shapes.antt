@@ -13,7 +13,6 @@ use Rattle.text.specs.Runs.{all, run, cons_unless_end, trim_end}
 use Rattle.text.specs.Lines.{Line}
 use Rattle.text.proofs.Laws.Runs.{trim_end-blank}
 use Rattle.rules.specs.Headings.{stars, is_heading}
-use Rattle.stream.specs.Headings.{title}
 use Rattle.stream.specs.State.{stars_so_far, title_so_far}
 use Rattle.stream.proofs.Laws.Bytes.{all_append, all_replicate}
 use Rattle.stream.proofs.Laws.Unfinished.{NoNewline}

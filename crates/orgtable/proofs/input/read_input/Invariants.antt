@@ -1,5 +1,5 @@
--- The loop of `orgtable::input::read_input`: the bytes in use are among the buffer's, and of known bytes they are the first.
--- The measure is the room left: a step that goes on moves at least a byte.
+-- `orgtable::input::read_input`: the bytes in use are among the buffer's, and of known bytes they are the first. The measure is the room left: a read
+-- that goes on moves at least a byte.
 use Rattle.std.proofs.Common.{length, take, ◌-◌, ◌≤◌}
 use Rattle.std.specs.Io.KnownBytes.{Consumes}
 use Rattle.orgtable.proofs.input.read_input.Given as goal
