@@ -6,10 +6,10 @@ ghost use Rattle.lookup.specs.Drawers.{has_end, before_end, first_other, drawer_
 ghost use Rattle.lookup.specs.declared.drawer.NoDrawer.TheVariants.{NotClosed, NotProperty};
 
 use crate::span::Span;
-use rules::closer::{Closer, find_end};
+use rules::closer::find_end;
 use rules::heading::next_heading;
 use rules::planning::is_planning;
-use rules::property::{Property, find_properties_end, property_at};
+use rules::property::{find_properties_end, property_at};
 use text::line::{first_line, line_at};
 use text::word::is_word;
 
@@ -43,9 +43,9 @@ fn first_other(text: &[u8], from: usize, to: usize) -> usize
     let mut at = from;
     while at < to {
         let line = line_at(text, at, to);
-        let Property::Named(_, _) = property_at(text, line, to) else {
+        if property_at(text, line, to).is_none() {
             return at;
-        };
+        }
         at = line.end;
     }
     at
@@ -56,17 +56,10 @@ fn why_none(text: &[u8], from: usize, to: usize) -> NoDrawer
     requires { (from ≤ to) × (to ≤ length text.now) }
     ensures { let ls = lines_in text.now from to in result ≡ pick (has_end ls) (NotProperty (first_other from (before_end ls))) NotClosed }
 {
-    let search = find_end(text, from, to);
-    let closer = search.closer;
-    let Closer::At {
-        start,
-        end: _,
-        before: _,
-    } = closer
-    else {
-        return NoDrawer::NotClosed;
-    };
-    NoDrawer::NotProperty(first_other(text, from, start))
+    match find_end(text, from, to).closer {
+        Some(closer) => NoDrawer::NotProperty(first_other(text, from, closer.start)),
+        None => NoDrawer::NotClosed,
+    }
 }
 
 // The lines of the property drawer that stands at a byte, its place, in a section that ends at a byte; or why there is none.
@@ -86,17 +79,12 @@ fn find_drawer_at(text: &[u8], at: usize, to: usize) -> Result<Span, NoDrawer>
         return Err(NoDrawer::Missing);
     }
     let inner = opener.end;
-    let Closer::At {
-        start,
-        end: _,
-        before: _,
-    } = find_properties_end(text, inner, to)
-    else {
+    let Some(closer) = find_properties_end(text, inner, to) else {
         return Err(why_none(text, inner, to));
     };
     Ok(Span {
         start: inner,
-        end: start,
+        end: closer.start,
     })
 }
 

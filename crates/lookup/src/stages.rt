@@ -4,7 +4,7 @@ ghost use Rattle.lookup.specs.Stages.{is_bad_key, heading_at, value_in};
 
 use crate::span::Span;
 use rules::heading::heading_stars;
-use rules::property::{Property, property_at};
+use rules::property::property_at;
 use text::bytes::{Class, run_end};
 use text::limit;
 use text::line::{line_at, line_end, starts_line};
@@ -50,10 +50,10 @@ pub fn find_value(text: &[u8], from: usize, to: usize, key: &[u8]) -> Option<Spa
     let mut at = from;
     while at < to {
         let line = line_at(text, at, to);
-        if let Property::Named(name, marker) = property_at(text, line, to) {
-            if is_word(text, line.from + 1, name, key) {
+        if let Some(property) = property_at(text, line, to) {
+            if is_word(text, line.from + 1, property.name, key) {
                 return Some(Span {
-                    start: run_end(text, marker, line.to, Class::Blank),
+                    start: run_end(text, property.marker, line.to, Class::Blank),
                     end: line.to,
                 });
             }

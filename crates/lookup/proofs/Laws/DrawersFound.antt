@@ -25,15 +25,16 @@ use Rattle.rules.specs.Spans.{inner_from, inner_to}
 use Rattle.rules.specs.Findings.{LineOf, closer_at, spanned, rule_at}
 use Rattle.rules.specs.declared.place.Place.TheVariants.{AfterHeading}
 use Rattle.rules.specs.declared.closer.Closer.{Closer}
-use Rattle.rules.specs.declared.closer.Closer.TheVariants.{At, Nothing}
-use Rattle.rules.specs.declared.rule.Rule.{Rule}
-use Rattle.rules.specs.declared.rule.Rule.TheVariants.{Holds, Fails}
+use Rattle.std.specs.Option.{unwrap_or}
+use Rattle.std.specs.declared.option.Option.{Option as Maybe}
+use Rattle.std.specs.declared.option.Option.TheVariants.{None, Some}
+use Rattle.rules.specs.declared.rule.Element.{Element}
 use Rattle.rules.proofs.Basics.{options}
 use Rattle.rules.proofs.Laws.Closers.{closer_in}
 use Rattle.rules.proofs.Laws.Headings.{next_line-up_to}
 use Rattle.rules.proofs.Laws.LineOf.{line_of, line_of-end, line_of-tail}
 use Rattle.rules.proofs.Laws.LineTests.{is_properties_line-part}
-use Rattle.rules.proofs.Laws.Findings.{between}
+use Rattle.rules.proofs.Laws.Findings.{closing, between}
 use Rattle.rules.proofs.Laws.Properties.{properties_end, property_drawer-closer}
 use Rattle.rules.proofs.Laws.PropertyDrawers.{line_after}
 use Rattle.dates.specs.Reads.{pick}
@@ -75,19 +76,19 @@ module _ (s : List ℕ) (p e : ℕ) where
   abbrev why : NoDrawer
   why = pick (has_end after) (NotProperty (first_other p (before_end after))) NotClosed
 
-  pub why-open : Nothing ≡ closer_in (word ":end:") s p e → NotClosed ≡ why
+  pub why-open : None ≡ closer_in (word ":end:") s p e → NotClosed ≡ why
   unfolding closer_at
   why-open h = options (lines_before (word ":end:") after)
       (λ i. rw (lines_before-none after i))
       (λ n i. let g = rw i at h in cc)
 
-  module _ (h : p ≤ e) (k : e ≤ length s) (a z n : ℕ) (c : At a z n ≡ closer_in (word ":end:") s p e) where
+  module _ (h : p ≤ e) (k : e ≤ length s) (a z n : ℕ) (c : Some (closing a z n) ≡ closer_in (word ":end:") s p e) where
     pub closer-lines : (has_end after ≡ true) × (lines_in s p a ≡ before_end after) × (p ≤ a) × (a ≤ e)
     unfolding closer_at
     closer-lines = options (lines_before (word ":end:") after)
         (λ i. let g = rw i at c in let z : ◌≡◌ {A = ℕ} 0 1 = cc in absurd (omega arith))
         (λ m i. let g = rw i at c in
-        let from : a ≡ p + size (take m after) = cc in
+        let from : a ≡ p + size (take m after) = ap (λ (x : Maybe Closer). (unwrap_or x (closing 0 0 0)).start) g in
         let r = lines_before-some after m i in
         (r.0, rw from (lines_in-take s p e m h k ∙ sym r.1), omega arith, omega (arith, within-lines_in s p e h k m)))
 
@@ -124,9 +125,9 @@ module _ (s : List ℕ) (p e q : ℕ) (i : q ≡ first_line s p e) where
 -- ---- the property drawer in its place
 
 -- the lines of what a rule finds, or why it fails
-abbrev pub lines_of : Rule → NoDrawer → Result Span NoDrawer
-lines_of (Holds x) w = Ok (span x.from x.to)
-lines_of Fails w = Err w
+abbrev pub lines_of : Maybe Element → NoDrawer → Result Span NoDrawer
+lines_of (Some x) w = Ok (span x.from x.to)
+lines_of None w = Err w
 
 module _ (s : List ℕ) (p e : ℕ) where
   abbrev ls : List Line
@@ -173,15 +174,15 @@ module _ (s : List ℕ) (p e : ℕ) where
       drawer-missing k = sym (drawer_in-other p ls (opens ∙ j) (blank-first ∙ k))
 
     module _ (j : same text (word ":properties:") ≡ true) where
-      pub drawer-closer : (c : Closer) → c ≡ properties_end s l.end e
+      pub drawer-closer : (c : Maybe Closer) → c ≡ properties_end s l.end e
           → lines_of (between Kind.property_drawer 0 l.end c) (why_none p ls) ≡ drawer_in p ls
       unfolding allows_properties
       drawer-closer c k =
-          ap (λ (r : Rule). lines_of r (why_none p ls))
+          ap (λ (r : Maybe Element). lines_of r (why_none p ls))
           (rw from_start at (property_drawer-closer s l e opener AfterHeading (is_properties_line-part s l e opener ∙ j) c k))
           ∙ drawer_in-rule
 
-      pub drawer-open : Nothing ≡ properties_end s l.end e → (d : NoDrawer) → d ≡ why s l.end e → Err d ≡ drawer_in p ls
+      pub drawer-open : None ≡ properties_end s l.end e → (d : NoDrawer) → d ≡ why s l.end e → Err d ≡ drawer_in p ls
       unfolding closer_at first_other_in line_in
       drawer-open k d m = options (properties_before (lines_in s l.end e))
           (λ n. ap Err m ∙ sym (drawer_in-opened p ls (opens ∙ j) (rw (rw from_start at (line_of-tail s l e opener)) n)

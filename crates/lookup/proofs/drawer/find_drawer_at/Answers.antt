@@ -3,7 +3,6 @@
 use mathlib.Core.Path.{sym, ◌∙◌}
 use native.Mathlib.Omega.{arith}
 use Rattle.text.specs.Runs.{word}
-use Rattle.rules.specs.declared.closer.Closer.TheVariants.{At}
 use Rattle.rules.proofs.Laws.LineOf.{line_of, line_of-order}
 use Rattle.lookup.proofs.Laws.DrawersFound.{drawer-end, drawer-blank_first, drawer-missing, drawer-open, drawer-closer}
 use Rattle.lookup.proofs.drawer.find_drawer_at.Goals as goal
@@ -51,4 +50,4 @@ unfolding word
 returns c =
     drawer-closer _ _ _ _ c.line_at-opener.ensures c.if-to-at.false c.requires.1
     (sym c.is_word.ensures ∙ c.if-not-is_word.false)
-    (At _ _ _) c.in-At.ensures
+    _ c.in-Some.ensures

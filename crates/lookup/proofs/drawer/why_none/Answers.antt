@@ -6,14 +6,14 @@ use Rattle.rules.proofs.Laws.Closers.{searched-closer}
 use Rattle.lookup.proofs.Laws.DrawersFound.{why-open, closer-lines, why-other}
 use Rattle.lookup.proofs.drawer.why_none.Goals as goal
 
-pub returns-in_default : goal.returns-in_default
-returns-in_default c = why-open _ _ _ (sym c.in_default.is ∙ searched-closer _ _ _ _ _ c.find_end-search.ensures)
+pub returns-in-None : goal.returns-in-None
+returns-in-None c = why-open _ _ _ (sym c.in-None.is ∙ searched-closer _ _ _ _ _ c.find_end.ensures)
 
 pub first_other-requires : goal.first_other-requires
 first_other-requires c =
-    omega (arith, closer-lines _ _ _ c.requires.0 c.requires.1 _ _ _ (sym c.in-At.is ∙ searched-closer _ _ _ _ _ c.find_end-search.ensures))
+    omega (arith, closer-lines _ _ _ c.requires.0 c.requires.1 _ _ _ (sym c.in-Some.is ∙ searched-closer _ _ _ _ _ c.find_end.ensures))
 
-pub returns : goal.returns
-returns c =
-    why-other _ _ _ c.requires.0 c.requires.1 _ _ _ (sym c.in-At.is ∙ searched-closer _ _ _ _ _ c.find_end-search.ensures)
+pub returns-in-Some : goal.returns-in-Some
+returns-in-Some c =
+    why-other _ _ _ c.requires.0 c.requires.1 _ _ _ (sym c.in-Some.is ∙ searched-closer _ _ _ _ _ c.find_end.ensures)
     _ c.first_other.ensures

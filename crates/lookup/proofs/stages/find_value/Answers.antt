@@ -11,19 +11,19 @@ property_at-requires c = line_of _ _ _ _ c.loop-at-test.true c.requires.1 c.line
 
 pub overflow_add-line : goal.overflow_add-line
 overflow_add-line c =
-    omega (arith, name-order _ _ _ _ _ (line_of _ _ _ _ c.loop-at-test.true c.requires.1 c.line_at-line.ensures) c.in-Named.ensures)
+    omega (arith, name-order _ _ _ _ _ (line_of _ _ _ _ c.loop-at-test.true c.requires.1 c.line_at-line.ensures) c.in-Some.ensures)
 
 pub is_word-requires : goal.is_word-requires
 is_word-requires c =
-    omega (arith, name-order _ _ _ _ _ (line_of _ _ _ _ c.loop-at-test.true c.requires.1 c.line_at-line.ensures) c.in-Named.ensures)
+    omega (arith, name-order _ _ _ _ _ (line_of _ _ _ _ c.loop-at-test.true c.requires.1 c.line_at-line.ensures) c.in-Some.ensures)
 
 pub run_end-requires : goal.run_end-requires
 run_end-requires c =
-    omega (arith, name-order _ _ _ _ _ (line_of _ _ _ _ c.loop-at-test.true c.requires.1 c.line_at-line.ensures) c.in-Named.ensures)
+    omega (arith, name-order _ _ _ _ _ (line_of _ _ _ _ c.loop-at-test.true c.requires.1 c.line_at-line.ensures) c.in-Some.ensures)
 
 pub returns-then-is_word : goal.returns-then-is_word
 returns-then-is_word c =
-    value-here _ _ _ _ _ c.line_at-line.ensures c.loop-at-test.true c.requires.1 _ _ c.in-Named.ensures
+    value-here _ _ _ _ _ c.line_at-line.ensures c.loop-at-test.true c.requires.1 _ _ c.in-Some.ensures
     (sym c.is_word.ensures ∙ c.if-is_word.true) _ c.run_end.ensures
     ∙ c.loop-at.invariant.1
 
@@ -33,7 +33,7 @@ loop-at-smaller-else-is_word c = omega (arith, line_span-next _ _ _ _ c.line_at-
 pub loop-at-preserved-else-is_word : goal.loop-at-preserved-else-is_word
 loop-at-preserved-else-is_word c = (
   (line_span-next _ _ _ _ c.line_at-line.ensures c.loop-at-test.true c.requires.1).1,
-  value-other _ _ _ _ _ c.line_at-line.ensures c.loop-at-test.true c.requires.1 _ _ c.in-Named.ensures
+  value-other _ _ _ _ _ c.line_at-line.ensures c.loop-at-test.true c.requires.1 _ _ c.in-Some.ensures
       (sym c.is_word.ensures ∙ c.if-is_word.false)
       ∙ c.loop-at.invariant.1,
 )

@@ -3,7 +3,8 @@
 use Rattle.std.proofs.Common.{sym, ap, ◌∙◌, ◌≤◌, ◌<◌, arith}
 use Rattle.rules.specs.Findings.{LineOf}
 use Rattle.rules.proofs.Laws.LineOf.{line_of, line_span-next}
-use Rattle.rules.proofs.Laws.Findings.{further-nothing, further-zero, further-one, further-here, further, is_named, property_of-named}
+use Rattle.std.specs.Option.{is_some}
+use Rattle.rules.proofs.Laws.Findings.{further-nothing, further-zero, further-one, further-here, further, property_of-named}
 use Rattle.rules.proofs.Laws.Properties.{properties-none, properties-here, properties-pass, properties-stop}
 use Rattle.rules.proofs.property.find_properties_end.Goals as goal
 use Rattle.rules.proofs.property.find_properties_end.Goals.{After-line_at-line}
@@ -38,7 +39,7 @@ returns-in_err-property_at c =
     ∙ sym (further-nothing _)
     ∙ ap (further _) (properties-stop _ _ _ _ c.line_at-line.ensures c.loop-at-test.true inv.1
     (sym c.is_end_line.ensures ∙ c.if-is_end_line.false)
-    (sym (property_of-named _ _) ∙ ap is_named (sym c.in_err-property_at.ensures)))
+    (sym (property_of-named _ _) ∙ ap is_some (sym c.in_err-property_at.ensures)))
     ∙ inv.3
 
 pub loop-at-smaller : goal.loop-at-smaller
@@ -54,7 +55,7 @@ loop-at-preserved c =
       further-one _ _
           ∙ ap (further _) (properties-pass _ _ _ _ c.line_at-line.ensures c.loop-at-test.true inv.1
           (sym c.is_end_line.ensures ∙ c.if-is_end_line.false)
-          (sym (property_of-named _ _) ∙ ap is_named (sym c.in_ok-property_at.ensures)))
+          (sym (property_of-named _ _) ∙ ap is_some (sym c.in_ok-property_at.ensures)))
           ∙ inv.3,
     )
 
