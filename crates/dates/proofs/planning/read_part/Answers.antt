@@ -10,17 +10,27 @@ returns-in_err-keyword c = rw c.from_residual.ensures (record { is = rw c.in_err
 
 pub returns-in_err-stamp : goal.returns-in_err-stamp
 unfolding planning_part
-returns-in_err-stamp c = rw c.from_residual-in_err-stamp.ensures (record { is = rw (c.in_ok-keyword.ensures.0.is, c.in_err-stamp.ensures.is); within = tt }, tt)
+returns-in_err-stamp c =
+    let no = c.in_err-stamp.ensures in
+    rw c.from_residual-in_err-stamp.ensures (
+      record {
+        is = rw (c.in_ok-keyword.ensures.0.is, no.is);
+        within = tt;
+      },
+      tt,
+    )
 
 pub returns-in_err-end : goal.returns-in_err-end
 unfolding planning_part
-returns-in_err-end c = rw c.from_residual-in_err-end.ensures (
-  record {
-    is = rw (c.in_ok-keyword.ensures.0.is, c.in_ok-stamp.ensures.is, c.in_err-end.ensures.is);
-    within = tt;
-  },
-  tt,
-)
+returns-in_err-end c =
+    let no = c.in_err-end.ensures in
+    rw c.from_residual-in_err-end.ensures (
+      record {
+        is = rw (c.in_ok-keyword.ensures.0.is, c.in_ok-stamp.ensures.is, no.is);
+        within = tt;
+      },
+      tt,
+    )
 
 pub returns : goal.returns
 unfolding planning_part

@@ -31,7 +31,11 @@ returns-in_err-within c =
     let g = c.in_ok-a.ensures in
     let m = c.in_ok-mark.ensures in
     let i = c.in_ok-every.ensures in
-    rw c.from_residual-in_err-within.ensures (record { is = rw (g.is, m.is, i.is, c.in-Some.ensures.is, c.in_err-within.ensures.is); within = tt })
+    let no = c.in_err-within.ensures in
+    rw c.from_residual-in_err-within.ensures (record {
+      is = rw (g.is, m.is, i.is, c.in-Some.ensures.is, no.is);
+      within = tt;
+    })
 
 pub returns : goal.returns
 unfolding repeat word
