@@ -7,8 +7,7 @@ use Rattle.text.specs.Bytes.{is_blank, is_indent}
 use Rattle.text.specs.Runs.{after_run}
 use Rattle.text.specs.Lines.{Line, indent}
 use Rattle.text.specs.Parts.{line_in}
-use Rattle.rules.specs.Items.{Part, after_byte, ended, after_all, after_sign, after_number, after_set, after_box}
-use Rattle.rules.specs.Items.{past}
+use Rattle.rules.specs.Items.{Part, after_byte, ended, after_all, after_sign, after_number, after_set, after_box, past}
 use Rattle.rules.specs.declared.item.Bullet.{Bullet}
 
 -- the bullet of a line at byte p, with the byte right after it
@@ -22,11 +21,6 @@ bullet_of p l =
         | none ↦ None
       ]
     ]
-
--- whether it is a number or letter: a list whose first item has one has detail 1, else 2
-unfoldable pub is_numbered : Options.Option Bullet → Bool
-is_numbered None = false
-is_numbered (Some b) = b.numbered
 
 -- what is left of a line after its bullet: past blank bytes, a counter set and a check box; and where that starts, of what stands at byte p
 unfoldable pub after_marks : List ℕ → List ℕ

@@ -27,7 +27,7 @@ use Rattle.text.proofs.Laws.Lines.{line, line-nil, line-newline, line_other, run
 use Rattle.text.proofs.Laws.LinesIn.{line_in-nil, line_in-cons, line_in-next, line_in-some, line_in-part, line_in-after_run, indent-part}
 use Rattle.rules.specs.Items.{Part, after_byte, after_counter, is_ended, ended, and_then, after_all, is_sign, after_sign, is_mark, after_number}
 use Rattle.rules.specs.Items.{or_then, after_bullet, is_item, list_detail, is_box_byte, after_set, after_box, past, item_text, item_start}
-use Rattle.rules.specs.Bullets.{bullet_of, is_numbered, after_marks, marks_end, after_last}
+use Rattle.rules.specs.Bullets.{bullet_of, after_marks, marks_end, after_last}
 use Rattle.rules.specs.Bullets.{left_at, OnLine, FoundOn, Leaves}
 use Rattle.rules.specs.declared.item.Bullet.{Bullet}
 use Rattle.rules.proofs.Basics.{options, All, all_nil, all_cons}
@@ -312,6 +312,11 @@ module _ (s : List ℕ) (p e b : ℕ) (h : b ≡ p + indent (line_in s p e)) (i 
 
 -- ---- for callers: what the bullet found tells of the line
 
+-- whether it is a number or letter: a list whose first item has one has detail 1, else 2
+abbrev pub is_numbered : Options.Option Bullet → Bool
+is_numbered None = false
+is_numbered (Some b) = b.numbered
+
 -- no line has both kinds of bullet
 sign-number : (i : Bool) (x y : List ℕ) → after_sign i x ≡ some y → after_number x ≡ none
 unfolding after_sign after_number after_all after_byte after_counter
@@ -334,7 +339,7 @@ module _ (p : ℕ) (l : Line) where
       (λ y h. rw (bullet_of-sign p l y h, h))
 
   pub list_detail-bullet : list_detail l ≡ elim (is_numbered (bullet_of p l)) [ true ↦ 1 | false ↦ 2 ]
-  unfolding list_detail is_numbered
+  unfolding list_detail
   list_detail-bullet = options (sign p l)
       (λ h. options (after_number (text p l))
       (λ k. rw (bullet_of-nothing p l h k, k, list_detail))

@@ -1,7 +1,7 @@
 -- `rules::heading::star_line_in`: the least number so far is the place of a star right after byte 10, if it is a place at all, and no byte passed
 -- before it is such a star.
 -- Assumes nothing.
-use Rattle.std.proofs.Common.{ℕ, ◌+◌, ◌-◌, ◌≤◌, ◌<◌}
+use Rattle.std.proofs.Common.{ℕ, ◌+◌, ◌≤◌, ◌<◌}
 use Rattle.rules.specs.Headings.{StarLine}
 use Rattle.rules.proofs.heading.star_line_in.Given as goal
 

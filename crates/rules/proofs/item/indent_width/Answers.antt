@@ -1,6 +1,6 @@
 -- `rules::item::indent_width` meets its contract: a byte counts 8 or 1, and nothing is left at the end.
 -- Assumes nothing.
-use Rattle.std.proofs.Common.{sym, ap, ◌∙◌, take, drop, ◌-◌, arith}
+use Rattle.std.proofs.Common.{ap, arith}
 use Rattle.text.proofs.Laws.Parts.{part_slice}
 use Rattle.rules.specs.Items.{width_of}
 use Rattle.rules.proofs.Laws.Items.{width_of-nil, width_of-tab, width_of-other}

@@ -1,6 +1,6 @@
 -- `rules::known::name_number` meets its contract: one byte more is taken into the number, and none is left at the end.
 -- Assumes nothing.
-use Rattle.std.proofs.Common.{sym, ap, refl, ◌∙◌, take, drop, ◌-◌, arith}
+use Rattle.std.proofs.Common.{sym, ap, refl, ◌∙◌, arith}
 use Rattle.text.proofs.Laws.Parts.{part_slice}
 use Rattle.rules.specs.Known.{name_number}
 use Rattle.rules.proofs.Laws.Known.{number-end, number_step}

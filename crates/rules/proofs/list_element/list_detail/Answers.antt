@@ -2,10 +2,9 @@
 -- Assumes nothing.
 use Rattle.std.proofs.Common.{◌≡◌, Bool, false, Option, Some, None, arith, of_calls}
 use Rattle.std.specs.Prelude.{MatchOption}
-use Rattle.rules.specs.Bullets.{is_numbered}
 use Rattle.rules.specs.declared.item.Bullet.{Bullet}
 use Rattle.rules.proofs.Laws.LineOf.{line_of-order, line_of-from}
-use Rattle.rules.proofs.Laws.Bullets.{list_detail-bullet}
+use Rattle.rules.proofs.Laws.Bullets.{is_numbered, list_detail-bullet}
 use Rattle.rules.proofs.list_element.list_detail.Goals as goal
 
 pub find_bullet-requires : goal.find_bullet-requires
@@ -16,7 +15,6 @@ find_bullet-requires c =
 
 -- what the closure answers of a bullet
 asked : (o : Option Bullet) (r : Bool) {Q : Bullet → Type 0} → MatchOption o (r ≡ false) Q → ((b : Bullet) → Q b → r ≡ b.numbered) → r ≡ is_numbered o
-unfolding is_numbered
 asked None r h q = h
 asked (Some b) r h q = q b h
 
