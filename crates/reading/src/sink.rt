@@ -8,6 +8,7 @@ use table::record::Record;
 use text::limit;
 
 // The end of every record stream: it counts the records, writes them in the writing mode, and once stopped takes no more.
+// Flags, and no Option of a sink: no plainer, as each contract of the walk would say apart what a stop leaves, and each call end in `?`.
 #[derive(Clone, Copy)]
 pub struct Sink {
     pub count: usize,

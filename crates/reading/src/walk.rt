@@ -23,7 +23,7 @@ use text::line::{LineSpan, first_line, line_at};
 use text::marks::word_end;
 use text::word::begins_with;
 
-// The record of a node property line, or of a row.
+// The record of a node property line, or of a row. Where its lines end, at `to`, is asked for the contract alone.
 fn line_record(
     text: &[u8],
     line: LineSpan,
@@ -35,37 +35,28 @@ fn line_record(
     requires { LineOf text.now line to × (number ≡ line_number text.now line.start) }
     ensures { result ≡ child_record text.now (lines_to rows to) parent line.start }
 {
-    if rows {
-        let detail = if begins_with(text, line.from, line.to, b"|-") {
-            1
-        } else {
-            0
-        };
-        return Record {
-            kind: kind::ROW,
-            start: line.start,
-            end: line.end,
-            from: line.from,
-            to: line.to,
-            parent,
-            detail,
-            line: number,
-        };
-    }
-    let marker = word_end(text, line.from, line.to);
+    let (kind, from, detail) = if rows {
+        let rule = begins_with(text, line.from, line.to, b"|-");
+        (kind::ROW, line.from, usize::from(rule))
+    } else {
+        let marker = word_end(text, line.from, line.to);
+        let value = run_end(text, marker, line.to, Class::Blank);
+        (kind::NODE_PROPERTY, value, 0)
+    };
     Record {
-        kind: kind::NODE_PROPERTY,
+        kind,
         start: line.start,
         end: line.end,
-        from: run_end(text, marker, line.to, Class::Blank),
+        from,
         to: line.to,
         parent,
-        detail: 0,
+        detail,
         line: number,
     }
 }
 
-// The lines of a property drawer, or the rows of a table: so many lines, which are enough to count them.
+// The lines of a property drawer, or the rows of a table: so many lines, which are enough to count them. `rows` is a flag and no closure, which would
+// be no plainer: the contract names the container by it.
 fn read_lines(
     text: &[u8],
     from: usize,
@@ -126,7 +117,7 @@ pub struct Step {
 }
 
 // The element at a line of a range, or the item of a list's, and how to go on after it. The scope is taken apart here and in `read_elements`: as a
-// struct it would cost every level of nesting some 50 bytes of stack.
+// struct it would cost every level of nesting some 50 bytes of stack. `items` is a flag for the reason that `rows` is one.
 fn next_element(
     text: &[u8],
     at: usize,
