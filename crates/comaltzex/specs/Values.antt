@@ -1,8 +1,7 @@
 -- Answers of a lookup in the numbers of the C interface.
 use Rattle.std.specs.Prelude.{ℕ}
-use Rattle.lookup.specs.declared.lookup.Answer.{Answer}
 use Rattle.lookup.specs.declared.defaults.Sourced.{Sourced}
-use Rattle.lookup.specs.Lookup.{number, start, end, further}
+use Rattle.lookup.specs.Lookup.{Answer, number, start, end, further}
 use Rattle.lookup.specs.Defaults.{whose, answer}
 use Rattle.comaltzex.specs.declared.value.Value.{Value}
 use Rattle.comaltzex.specs.declared.value.SourcedValue.{SourcedValue}

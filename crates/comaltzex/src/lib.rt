@@ -24,7 +24,7 @@ use intake::call::intake;
 use intake::log::intake_log;
 use lookup::defaults::lookup_with_defaults;
 use lookup::lookup::lookup;
-use lookup::planning::{Answer as Planned, planning};
+use lookup::planning::{Refusal as Unplanned, planning};
 use reading::answer::Answer;
 use reading::read::read;
 use rules::closer::Closer;
@@ -222,9 +222,9 @@ pub extern "C" fn comaltzex_planning(text: &[u8], at: usize) -> Plan
     ensures { result ≡ plan_at text.now at }
 {
     match planning(text, at) {
-        Planned::Found(stamps) => planned(stamps),
-        Planned::TooLong => no_plan(number::TOO_LONG),
-        Planned::NoHeading => no_plan(number::NO_HEADING),
+        Ok(stamps) => planned(stamps),
+        Err(Unplanned::TooLong) => no_plan(number::TOO_LONG),
+        Err(Unplanned::NoHeading) => no_plan(number::NO_HEADING),
     }
 }
 

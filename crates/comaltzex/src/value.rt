@@ -2,7 +2,8 @@ ghost use Rattle.std.specs.Prelude.{◌≡◌};
 ghost use Rattle.comaltzex.specs.Values.{value_numbers, sourced_value, sourced_numbers};
 
 use lookup::defaults::Sourced;
-use lookup::lookup::Answer;
+use lookup::lookup::{Answer, Refusal};
+use lookup::span::Span;
 use text::number;
 
 // Whose answer it is, as lookup's specs/Defaults has it.
@@ -35,20 +36,20 @@ pub fn value_numbers(answer: Answer) -> Value
     ensures { result ≡ value_numbers answer }
 {
     match answer {
-        Answer::Found(a, e) => Value {
+        Ok(Span { start, end }) => Value {
             number: number::DONE,
-            start: a,
-            end: e,
+            start,
+            end,
             further: 0,
         },
-        Answer::TooLong => refused(number::TOO_LONG, 0),
-        Answer::NoHeading => refused(number::NO_HEADING, 0),
-        Answer::BlankFirst => refused(number::BLANK_FIRST, 0),
-        Answer::NotClosed => refused(number::NOT_CLOSED, 0),
-        Answer::NotProperty(line) => refused(number::NOT_PROPERTY, line),
-        Answer::NoDrawer => refused(number::NO_DRAWER, 0),
-        Answer::NoKey => refused(number::NO_KEY, 0),
-        Answer::BadKey => refused(number::BAD_KEY, 0),
+        Err(Refusal::TooLong) => refused(number::TOO_LONG, 0),
+        Err(Refusal::NoHeading) => refused(number::NO_HEADING, 0),
+        Err(Refusal::BlankFirst) => refused(number::BLANK_FIRST, 0),
+        Err(Refusal::NotClosed) => refused(number::NOT_CLOSED, 0),
+        Err(Refusal::NotProperty(line)) => refused(number::NOT_PROPERTY, line),
+        Err(Refusal::NoDrawer) => refused(number::NO_DRAWER, 0),
+        Err(Refusal::NoKey) => refused(number::NO_KEY, 0),
+        Err(Refusal::BadKey) => refused(number::BAD_KEY, 0),
     }
 }
 

@@ -4,7 +4,8 @@ ghost use Rattle.text.specs.Limits.{text_limit};
 ghost use Rattle.intake.specs.Required.{request_key};
 ghost use Rattle.intake.specs.Seen.{looks_up, seen};
 
-use lookup::lookup::{Answer, lookup};
+use lookup::lookup::lookup;
+use lookup::span::Span;
 use rules::heading::next_heading;
 use text::line::line_end;
 use text::word::is_equal;
@@ -13,7 +14,7 @@ use text::word::is_equal;
 fn looks_up(text: &[u8], at: usize, value: &[u8]) -> bool
     ensures { result ≡ looks_up text.now request_key value.now at }
 {
-    let Answer::Found(start, end) = lookup(text, at, b"REQUEST") else {
+    let Ok(Span { start, end }) = lookup(text, at, b"REQUEST") else {
         return false;
     };
     is_equal(&text[start..end], value)

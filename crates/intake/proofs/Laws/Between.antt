@@ -11,7 +11,8 @@ use Rattle.text.specs.Parts.{lines_in, line_in, next_line, LineStart}
 use Rattle.text.proofs.Laws.LinesIn.{lines_in-step, next_line-before}
 use Rattle.text.proofs.Laws.LineStarts.{line_start-after}
 use Rattle.rules.specs.Headings.{is_heading}
-use Rattle.lookup.specs.declared.lookup.Answer.TheVariants.{NoHeading}
+use Rattle.std.specs.declared.result.Result.TheVariants.{Err}
+use Rattle.lookup.specs.declared.lookup.Refusal.TheVariants.{NoHeading}
 use Rattle.lookup.specs.Stages.{is_bad_key}
 use Rattle.lookup.specs.Lookup.{lookup}
 use Rattle.lookup.proofs.Laws.Local.{lookup-nothing}
@@ -38,11 +39,11 @@ module _ (s : List ℕ) (p : ℕ) where
 
   module _ (start : LineStart s p) (k : List ℕ) (long : length s ≤ text_limit) (good : is_bad_key k ≡ false) (r : ℕ) where
     -- from a line's start on
-    pub lookup-between : p ≤ r → r < next_line is_heading s p → lookup s r k ≡ NoHeading
+    pub lookup-between : p ≤ r → r < next_line is_heading s p → lookup s r k ≡ Err NoHeading
     lookup-between i j = lookup-nothing s r k long good (λ l.
         let (n, e) = line_start-after s p r start l i in rw e (next_line-before s is_heading p n (rw e at j)))
 
     -- past a line
-    pub lookup-past_line : p < length s → p < r → r < next_line is_heading s next → lookup s r k ≡ NoHeading
+    pub lookup-past_line : p < length s → p < r → r < next_line is_heading s next → lookup s r k ≡ Err NoHeading
     lookup-past_line h i j = lookup-nothing s r k long good (λ l.
         let (n, e) = line_start-after s p r start l (omega arith) in past-line n r h e i j)

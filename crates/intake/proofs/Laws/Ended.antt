@@ -12,7 +12,8 @@ use Rattle.text.specs.Limits.{text_limit}
 use Rattle.text.specs.Lines.{is_ended}
 use Rattle.text.specs.Parts.{line_starts}
 use Rattle.text.proofs.Laws.Joined.{ended-line, ended-byte}
-use Rattle.lookup.specs.declared.lookup.Answer.TheVariants.{NoHeading}
+use Rattle.std.specs.declared.result.Result.TheVariants.{Err}
+use Rattle.lookup.specs.declared.lookup.Refusal.TheVariants.{NoHeading}
 use Rattle.lookup.specs.Stages.{is_bad_key}
 use Rattle.lookup.specs.Lookup.{lookup}
 use Rattle.lookup.proofs.Laws.Local.{lookup-inside-line, lookup-past}
@@ -71,7 +72,7 @@ module _ (s : List ℕ) where
         (λ e. rw (ended-yes e))
         (λ e. let n = ap length (ended-no e) ∙ length-append s (10 ∷ []) in rw (ended-no e) (lookup-newline s k e (omega arith) p h))
 
-    pub ended-past : is_bad_key k ≡ false → (p : ℕ) → length s ≤ p → lookup (ended s) p k ≡ NoHeading
+    pub ended-past : is_bad_key k ≡ false → (p : ℕ) → length s ≤ p → lookup (ended s) p k ≡ Err NoHeading
     ended-past good p h = cases (leb (length (ended s)) p)
         (λ l. lookup-past (ended s) p k long good (leb-true (length (ended s)) p l))
         (λ l. lookup-inside-line (ended s) p k long good (cases (is_ended s)

@@ -12,9 +12,8 @@ use lib.Seq.{drop-append-le, take-append-le}
 use borrow.Author.Tests.{ltb-true, ltb-false}
 use borrow.Table.Steps.{cases}
 use Rattle.text.specs.Limits.{text_limit}
-use Rattle.lookup.specs.declared.lookup.Answer.{Answer}
 use Rattle.lookup.specs.Stages.{is_bad_key}
-use Rattle.lookup.specs.Lookup.{lookup, number, start, end, part_of}
+use Rattle.lookup.specs.Lookup.{Answer, lookup, number, start, end, part_of}
 use Rattle.lookup.specs.Joined.{shift}
 use Rattle.lookup.proofs.Laws.Lookup.{lookup-inside}
 use Rattle.lookup.proofs.Laws.Local.{number-shift, part_of-shift}

@@ -16,7 +16,8 @@ use Rattle.text.proofs.Laws.LinesIn.{line_in-to, line_in-some, next_line-from}
 use Rattle.text.proofs.Laws.LineStarts.{line_start-zero, line_start-more, line_start-next}
 use Rattle.rules.specs.Headings.{is_heading, is_heading_up_to}
 use Rattle.rules.proofs.Laws.Headings.{next_line-up_to}
-use Rattle.lookup.specs.declared.lookup.Answer.TheVariants.{NoHeading}
+use Rattle.std.specs.declared.result.Result.TheVariants.{Err}
+use Rattle.lookup.specs.declared.lookup.Refusal.TheVariants.{NoHeading}
 use Rattle.lookup.specs.Lookup.{lookup}
 use Rattle.intake.specs.Required.{request_key}
 use Rattle.intake.specs.Seen.{looks_up, some_below, seen}
@@ -56,7 +57,7 @@ pub search-further : (s : List ℕ) (p : ℕ) → p < length s → (a q : ℕ)
 search-further s p h a q i j = omega (arith, (search-line s p h a i).0, next_line-from s (is_heading_up_to (length s)) a)
 
 module _ (s v : List ℕ) where
-  none_found : (r : ℕ) → lookup s r request_key ≡ NoHeading → looks_up s request_key v r ≡ false
+  none_found : (r : ℕ) → lookup s r request_key ≡ Err NoHeading → looks_up s request_key v r ≡ false
   unfolding looks_up
   none_found r e = rw e
 

@@ -17,7 +17,8 @@ use Rattle.text.specs.Parts.{line_in}
 use Rattle.text.proofs.Laws.LineStarts.{line_start-zero}
 use Rattle.rules.specs.Headings.{is_heading}
 use Rattle.rules.proofs.Basics.{some-none}
-use Rattle.lookup.specs.declared.lookup.Answer.TheVariants.{NoHeading}
+use Rattle.std.specs.declared.result.Result.TheVariants.{Err}
+use Rattle.lookup.specs.declared.lookup.Refusal.TheVariants.{NoHeading}
 use Rattle.lookup.specs.Stages.{is_bad_key}
 use Rattle.lookup.specs.Lookup.{lookup}
 use Rattle.lookup.proofs.Laws.Local.{whole-lines, lookup-past}
@@ -33,7 +34,7 @@ use Rattle.intake.proofs.Laws.Between.{lookup-past_line}
 -- a text whose first line is its only heading line
 pub record OneHeadingLine (x : List ℕ) : Type 0 where
   pub first : is_heading (head_line (lines x)) ≡ true
-  pub later : (q : ℕ) (k : List ℕ) → is_bad_key k ≡ false → lookup x (suc q) k ≡ NoHeading
+  pub later : (q : ℕ) (k : List ℕ) → is_bad_key k ≡ false → lookup x (suc q) k ≡ Err NoHeading
 
 -- which pair it is whose value is found
 value_for-at : (k v : List ℕ) (ps : List Pair) → value_for k ps ≡ some v → let at : ℕ → Pair = λ i. get_or ps i (pair [] []) in

@@ -17,9 +17,9 @@ use Rattle.text.proofs.Laws.Parts.{part_slice}
 use Rattle.rules.specs.LineTests.{is_planning}
 use Rattle.rules.proofs.Basics.{or_no, All, all_cons}
 use Rattle.rules.proofs.Laws.PropertyDrawers.{line_after}
-use Rattle.lookup.specs.declared.drawer.Drawer.TheVariants.{Lines}
-use Rattle.lookup.specs.declared.stages.Heading.TheVariants.{Before}
-use Rattle.lookup.specs.declared.stages.Value.TheVariants.{Missing as NoValue}
+use Rattle.std.specs.declared.option.Option.TheVariants.{None, Some}
+use Rattle.std.specs.declared.result.Result.TheVariants.{Ok}
+use Rattle.lookup.specs.Spans.{span}
 use Rattle.lookup.specs.Drawers.{drawer_after}
 use Rattle.lookup.specs.Lookup.{lookup, with_value, number, part_of}
 use Rattle.lookup.specs.Promises.{Tried}
@@ -46,20 +46,20 @@ module _ (o : Order) (g : GoodOrder o) where
   abbrev a : ℕ
   a = title_end o
 
-  heading_at-title : heading_at s 0 ≡ Before a
+  heading_at-title : heading_at s 0 ≡ Some a
   heading_at-title = rw (zero-add, sheet-title_line o g) at (heading_at-yes s 0 (sheet-heading_line o g))
 
   line_after-title : is_planning (line_after s a) ≡ false
   line_after-title = rw (sheet-next_heading o g, line_in-head s a (length s) open_line _ (sheet-drawer_lines o g)) open_line-planning
 
-  drawer_after-title : drawer_after s a ≡ Lines (open_end o) (close_start o)
+  drawer_after-title : drawer_after s a ≡ Ok (span (open_end o) (close_start o))
   unfolding head_line
   drawer_after-title =
       after-heading s a line_after-title
       ∙ rw (sheet-next_heading o g, sheet-drawer_lines o g) (drawer_in-some a (drawer_lines o) _ (sheet-drawer o g) ∙ rw (close_start-is o))
 
   pub lookup-sheet : (k : List ℕ) → Tried s k → lookup s 0 k ≡ with_value (value_in k (open_end o) (pair_lines o.pairs))
-  lookup-sheet k t = rw (sheet-pair_lines o g) at (lookup-drawer s 0 k t a heading_at-title (Lines (open_end o) (close_start o)) drawer_after-title)
+  lookup-sheet k t = rw (sheet-pair_lines o g) at (lookup-drawer s 0 k t a heading_at-title (Ok (span (open_end o) (close_start o))) drawer_after-title)
 
 -- ---- the value
 
@@ -70,7 +70,7 @@ some_pair-at f (p ∷ ps) zero h l = (or_no (f p) (some_pair f ps) h).0
 some_pair-at f (p ∷ ps) (suc i) h l = some_pair-at f ps i (or_no (f p) (some_pair f ps) h).1 (omega arith)
 
 module _ (k : List ℕ) where
-  pub value_in-none : (p : ℕ) (ps : List Pair) → All GoodPair ps → has_key k ps ≡ false → value_in k p (pair_lines ps) ≡ NoValue
+  pub value_in-none : (p : ℕ) (ps : List Pair) → All GoodPair ps → has_key k ps ≡ false → value_in k p (pair_lines ps) ≡ None
   unfolding pair_lines has_key some_pair
   value_in-none p [] g h = value_in-nil k p
   value_in-none p (x ∷ ps) (all_cons y g) h =

@@ -7,9 +7,10 @@ use native.Mathlib.Omega.{arith}
 use lib.Dec.{eqb}
 use Rattle.text.specs.Number
 use Rattle.text.specs.Runs.{word, equal}
-use Rattle.lookup.specs.declared.lookup.Answer.{Answer}
-use Rattle.lookup.specs.declared.lookup.Answer.TheVariants.{Found, TooLong, NoHeading, BlankFirst, NotClosed, NotProperty, NoDrawer, NoKey, BadKey}
-use Rattle.lookup.specs.Lookup.{lookup, number, part_of, Inside}
+use Rattle.std.specs.declared.result.Result.TheVariants.{Err}
+use Rattle.lookup.specs.declared.lookup.Refusal.{Refusal}
+use Rattle.lookup.specs.declared.lookup.Refusal.TheVariants.{TooLong, NoHeading, BlankFirst, NotClosed, NotProperty, NoDrawer, NoKey, BadKey}
+use Rattle.lookup.specs.Lookup.{Answer, lookup, number, part_of, Inside}
 use Rattle.lookup.proofs.Laws.Lookup.{lookup-inside}
 use Rattle.intake.specs.Seen.{looks_up}
 use Rattle.intake.proofs.seen.looks_up.Goals as goal
@@ -18,16 +19,15 @@ use Rattle.intake.proofs.seen.looks_up.Goals as goal
 abbrev gives : Answer → List ℕ → List ℕ → Bool
 gives r s v = eqb (number r) Number.done && equal (part_of r s) v
 
-refused : (r : Answer) (s v : List ℕ) → ((a e : ℕ) → r ≡ Found a e → ⊥) → gives r s v ≡ false
-refused (Found a e) s v h = absurd (h a e refl)
-refused TooLong s v h = refl
-refused NoHeading s v h = refl
-refused BlankFirst s v h = refl
-refused NotClosed s v h = refl
-refused (NotProperty f) s v h = refl
-refused NoDrawer s v h = refl
-refused NoKey s v h = refl
-refused BadKey s v h = refl
+refused : (r : Refusal) (s v : List ℕ) → gives (Err r) s v ≡ false
+refused TooLong s v = refl
+refused NoHeading s v = refl
+refused BlankFirst s v = refl
+refused NotClosed s v = refl
+refused (NotProperty f) s v = refl
+refused NoDrawer s v = refl
+refused NoKey s v = refl
+refused BadKey s v = refl
 
 -- a part that is found lies in the text
 inside : (s k : List ℕ) (p : ℕ) (r : Answer) → r ≡ lookup s p k → Inside s r
@@ -38,18 +38,18 @@ unfolding looks_up word
 returns-in_default c =
     let s = c.args.text.now in
     let v = c.args.value.now in
-    sym (refused c.lookup.result s v c.in_default.not-Found) ∙ ap (λ (r : Answer). gives r s v) c.lookup.ensures.value
+    sym (refused c.in_default.field-0 s v) ∙ ap (λ (r : Answer). gives r s v) c.in_default.ensures.value
 
 pub slice_bounds-is_equal-count : goal.slice_bounds-is_equal-count
-slice_bounds-is_equal-count c = (inside _ _ _ _ c.in-Found.ensures.value).0
+slice_bounds-is_equal-count c = (inside _ _ _ _ c.in-Ok.ensures.value).0
 
 pub slice_bounds-is_equal-start : goal.slice_bounds-is_equal-start
-slice_bounds-is_equal-start c = omega (arith, inside _ _ _ _ c.in-Found.ensures.value)
+slice_bounds-is_equal-start c = omega (arith, inside _ _ _ _ c.in-Ok.ensures.value)
 
 pub slice_bounds-is_equal-end : goal.slice_bounds-is_equal-end
-slice_bounds-is_equal-end c = omega (arith, inside _ _ _ _ c.in-Found.ensures.value)
+slice_bounds-is_equal-end c = omega (arith, inside _ _ _ _ c.in-Ok.ensures.value)
 
 pub returns : goal.returns
 unfolding looks_up word
 returns c =
-    c.is_equal.ensures ∙ ap (λ (r : Answer). gives r c.args.text.now c.args.value.now) c.in-Found.ensures.value
+    c.is_equal.ensures ∙ ap (λ (r : Answer). gives r c.args.text.now c.args.value.now) c.in-Ok.ensures.value
