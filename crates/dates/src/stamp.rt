@@ -18,7 +18,7 @@ pub struct Moment {
     pub clock: Option<Time>,
 }
 
-// A number and its unit, one of `h d w m y`.
+// A number and its unit, one of `h d w m y`: a letter, as the C interface tells it.
 #[derive(Clone, Copy)]
 pub struct Interval {
     pub count: u32,
