@@ -14,6 +14,7 @@ use text::marks::word_end;
 use text::word::{begins_with, is_word};
 
 // The detail of the verbatim block of a name, where it is one of the five.
+// A table searched with `position` would be no plainer: each detail were a place plus 1.
 fn verbatim_detail(text: &[u8], from: usize, to: usize) -> Option<usize>
     requires { (from ≤ to) × (to ≤ length text.now) }
     ensures { result ≡ number_found (number_in verbatim_names 1 (part text.now from to)) }
