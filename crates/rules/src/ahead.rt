@@ -3,6 +3,7 @@ ghost use Rattle.text.specs.Runs.{word};
 ghost use Rattle.rules.specs.Known.{NoLine, Names};
 ghost use Rattle.rules.specs.Findings.{InScope};
 
+use crate::block::opened_name;
 use crate::closer::find_end;
 use crate::drawer::is_drawer_line;
 use crate::known::{closing_names, has_name};
@@ -10,8 +11,6 @@ use crate::lines::LineRun;
 use crate::rule::Element;
 use crate::scope::Scope;
 use text::line::LineSpan;
-use text::marks::word_end;
-use text::word::begins_with;
 
 // All of the 63 names: they tell nothing, and are not collected again.
 const ALL_NAMES: u64 = 9223372036854775807;
@@ -57,11 +56,10 @@ pub fn names_after(text: &[u8], line: LineSpan, scope: Scope) -> u64
     if names == ALL_NAMES {
         return names;
     }
-    if !begins_with(text, line.from, line.to, b"#+begin_") {
+    let Some((name, to)) = opened_name(text, line, scope.end) else {
         return names;
-    }
-    let name = line.from + 8;
-    if !has_name(names, text, name, word_end(text, name, line.to)) {
+    };
+    if !has_name(names, text, name, to) {
         return names;
     }
     closing_names(text, line.end, scope.end)

@@ -1,8 +1,8 @@
 ghost use Rattle.std.specs.Prelude.{◌≡◌, ◌≤◌, length};
-ghost use Rattle.text.specs.Parts.{part};
+ghost use Rattle.text.specs.Parts.{part, line_in};
 ghost use Rattle.rules.specs.Names.{number_in};
 ghost use Rattle.rules.specs.Elements.{block, verbatim_names, greater_detail};
-ghost use Rattle.rules.specs.Findings.{InScope, number_found, rule_on};
+ghost use Rattle.rules.specs.Findings.{LineOf, InScope, Opens, number_found, rule_on};
 
 use crate::closer::find_closer;
 use crate::kind;
@@ -14,6 +14,7 @@ use text::marks::word_end;
 use text::word::{begins_with, is_word};
 
 // The detail of the verbatim block of a name, where it is one of the five.
+// A table searched with `position` would be no plainer: each detail were a place plus 1.
 fn verbatim_detail(text: &[u8], from: usize, to: usize) -> Option<usize>
     requires { (from ≤ to) × (to ≤ length text.now) }
     ensures { result ≡ number_found (number_in verbatim_names 1 (part text.now from to)) }
@@ -50,10 +51,10 @@ fn greater_detail(text: &[u8], from: usize, to: usize) -> usize
     3
 }
 
-// A block, where its closer stands before the end.  [01 rule 3]
-pub fn try_block(text: &[u8], line: LineSpan, scope: Scope) -> Option<Element>
-    requires { InScope text.now line scope }
-    ensures { result ≡ rule_on block text.now line scope }
+// Where the name stands of the block that a line opens: after `#+begin_`, up to a blank byte, and not empty.  [01 rule 3]
+pub fn opened_name(text: &[u8], line: LineSpan, end: usize) -> Option<(usize, usize)>
+    requires { LineOf text.now line end }
+    ensures { Opens text.now (line_in text.now line.start end) result }
 {
     if !begins_with(text, line.from, line.to, b"#+begin_") {
         return None;
@@ -63,6 +64,15 @@ pub fn try_block(text: &[u8], line: LineSpan, scope: Scope) -> Option<Element>
     if to == name {
         return None;
     }
+    Some((name, to))
+}
+
+// A block, where its closer stands before the end.  [01 rule 3]
+pub fn try_block(text: &[u8], line: LineSpan, scope: Scope) -> Option<Element>
+    requires { InScope text.now line scope }
+    ensures { result ≡ rule_on block text.now line scope }
+{
+    let (name, to) = opened_name(text, line, scope.end)?;
     if scope.names != ANY_NAME && !has_name(scope.names, text, name, to) {
         return None;
     }

@@ -2,11 +2,10 @@ ghost use Rattle.std.specs.Prelude.{◌≡◌};
 ghost use Rattle.rules.specs.Findings.{LineOf};
 ghost use Rattle.rules.specs.Closers.{no_search, opener_search, search_from};
 
+use crate::block::opened_name;
 use crate::closer::{Search, find_closer, find_end};
 use crate::drawer::is_drawer_line;
 use text::line::{LineSpan, line_at, starts_line};
-use text::marks::word_end;
-use text::word::begins_with;
 
 // The search from the line that starts at a byte, in a container that ends at a byte. Nothing is found and nothing compared where no opener of a
 // block or drawer starts there, or where the container ends outside the text.  [02 order 3]
@@ -28,14 +27,9 @@ fn search_from_line(text: &[u8], line: LineSpan, to: usize) -> Search
     if is_drawer_line(text, line, to) {
         return find_end(text, line.end, to);
     }
-    if !begins_with(text, line.from, line.to, b"#+begin_") {
+    let Some((name, end)) = opened_name(text, line, to) else {
         return no_search();
-    }
-    let name = line.from + 8;
-    let end = word_end(text, name, line.to);
-    if end == name {
-        return no_search();
-    }
+    };
     find_closer(text, line.end, to, b"#+end_", &text[name..end])
 }
 
