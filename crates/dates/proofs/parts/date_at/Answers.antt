@@ -4,14 +4,13 @@ use Prim.Native.Nat.{◌+◌}
 use native.Mathlib.Omega.{arith}
 use Rattle.text.proofs.Laws.Parts.{part-take}
 use Rattle.dates.proofs.Laws.Reads.{take_part}
-use Rattle.dates.proofs.parts.date_at.Statement.{statement}
-use Rattle.dates.proofs.parts.date_at.Tie as tie
+use Rattle.dates.proofs.parts.date_at.Goals as goal
 
-returns : tie.Need-returns
+pub returns : goal.returns
 returns c =
-    let at-digits-value2 = c.before in
-    let at-digits-value = at-digits-value2.before in
-    let start = at-digits-value.before.before in
+    let at-digits-value2 = c in
+    let at-digits-value = at-digits-value2 in
+    let start = at-digits-value in
     let s = start.args.text.now in
     let at = start.args.at in
     let to = start.args.to in
@@ -19,17 +18,3 @@ returns c =
     let m = take_part s at to 5 2 (at + 5) (at + 7) (omega arith) (omega arith) (omega arith) in
     let d = take_part s at to 8 2 (at + 8) (at + 10) (omega arith) (omega arith) (omega arith) in
     rw (y, m, d, at-digits-value.digits_value.ensures, at-digits-value2.digits_value-2.ensures, c.digits_value-3.ensures)
-
-pub date_at_spec : {M : Type 1} → statement M
-date_at_spec =
-    tie.close
-    (tie.spec
-    (λ c. omega arith)
-    (λ c κs. omega arith)
-    (λ c. omega arith)
-    (λ c. omega arith)
-    (λ c κs. omega arith)
-    (λ c. omega arith)
-    (λ c. omega arith)
-    (λ c κs. omega arith)
-    returns)

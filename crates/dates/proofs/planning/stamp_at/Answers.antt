@@ -7,16 +7,8 @@ use mathlib.Core.List.{List}
 use Rattle.std.specs.declared.option.Option.{Option}
 use Rattle.dates.specs.Found.{stamp_in}
 use Rattle.dates.specs.declared.stamp.Timestamp.{Timestamp}
-use Rattle.dates.proofs.planning.stamp_at.Statement.{statement}
-use Rattle.dates.proofs.planning.stamp_at.Tie as tie
+use Rattle.dates.proofs.planning.stamp_at.Goals as goal
 
-returns : tie.Need-returns
+pub returns : goal.returns
 unfolding stamp_in
 returns c = sym (ap (λ (x : Option Timestamp × List ℕ). x.0) c.read_timestamp.ensures.is)
-
-pub stamp_at_spec : {M : Type 1} → statement M
-stamp_at_spec =
-    tie.close
-    (tie.spec
-    (λ c κs. search rules)
-    returns)

@@ -1,0 +1,16 @@
+-- `dates::parts::skip_word` meets its contract.
+-- Assumes nothing.
+use borrow.Author.Rules.{rules}
+use mathlib.Core.Path.{sym, ◌∙◌}
+use native.Mathlib.Omega.{arith}
+use Rattle.dates.proofs.Laws.Reads.{begins-room, expect-some, expect-none}
+use Rattle.dates.proofs.parts.skip_word.Goals as goal
+
+pub returns-then-begins_with : goal.returns-then-begins_with
+returns-then-begins_with c =
+    let at-begins-with = c in
+    let start = at-begins-with in
+    expect-some _ _ _ _ start.requires.0 start.requires.1 (sym at-begins-with.begins_with.ensures ∙ c.if-begins_with.true)
+
+pub returns-else-begins_with : goal.returns-else-begins_with
+returns-else-begins_with c = expect-none _ _ _ _ (sym c.begins_with.ensures ∙ c.if-begins_with.false)
