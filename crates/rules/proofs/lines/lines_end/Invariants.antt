@@ -1,14 +1,9 @@
--- `rules::lines::lines_end` meets its contract.
--- The invariant: n of the lines of the class stand before `at`, each a byte at least. The measure is the bytes after `at`.
+-- `rules::lines::lines_end`: n of the lines of the class stand before `at`, each a byte at least. The measure is the bytes after `at`.
 -- Assumes nothing.
-use mathlib.Core.Path.{◌≡◌, sym, ◌∙◌}
-use Prim.Native.Nat.{◌+◌, ◌-◌, ◌≤◌, ◌<◌}
-use native.Mathlib.Omega.{arith}
+use Prim.Native.Nat.{◌-◌, ◌≤◌}
 use lib.ListN.{length}
-use Rattle.text.specs.Parts.{line_in}
 use Rattle.rules.specs.LineTests.{line_test}
-use Rattle.rules.proofs.Laws.LineOf.{indent-run, after-to, after-end, line-next}
-use Rattle.rules.proofs.Laws.LineRuns.{Counted, counted_start, counted-end, counted-here, counted_skip}
+use Rattle.rules.proofs.Laws.LineRuns.{Counted}
 use Rattle.rules.proofs.lines.lines_end.Given as goal
 
 abbrev pub invariant-loop-at : goal.invariant-loop-at

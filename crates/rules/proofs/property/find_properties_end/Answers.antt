@@ -32,14 +32,13 @@ returns-then-is_end_line c =
 pub property_at-requires : goal.property_at-requires
 property_at-requires c = line (goal.at.property_at-requires c).After-line_at-line
 
-pub returns-in_err-property_at : goal.returns-in_err-property_at
-returns-in_err-property_at c =
+pub returns-then-is_none : goal.returns-then-is_none
+returns-then-is_none c =
     let inv = c.loop-at.invariant in
-    c.from_residual.ensures
-    ∙ sym (further-nothing _)
+    sym (further-nothing _)
     ∙ ap (further _) (properties-stop _ _ _ _ c.line_at-line.ensures c.loop-at-test.true inv.1
     (sym c.is_end_line.ensures ∙ c.if-is_end_line.false)
-    (sym (property_of-named _ _) ∙ ap is_some (sym c.in_err-property_at.ensures)))
+    (sym (property_of-named _ _) ∙ ap is_some (sym c.property_at.ensures) ∙ rw c.if-is_none.true at c.is_none.ensures))
     ∙ inv.3
 
 pub loop-at-smaller : goal.loop-at-smaller
@@ -55,7 +54,7 @@ loop-at-preserved c =
       further-one _ _
           ∙ ap (further _) (properties-pass _ _ _ _ c.line_at-line.ensures c.loop-at-test.true inv.1
           (sym c.is_end_line.ensures ∙ c.if-is_end_line.false)
-          (sym (property_of-named _ _) ∙ ap is_some (sym c.in_ok-property_at.ensures)))
+          (sym (property_of-named _ _) ∙ ap is_some (sym c.property_at.ensures) ∙ rw c.if-is_none.false at c.is_none.ensures))
           ∙ inv.3,
     )
 
