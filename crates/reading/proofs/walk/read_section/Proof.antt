@@ -14,15 +14,16 @@ use Rattle.reading.specs.Walk.{far, Range}
 use Rattle.rules.proofs.Laws.NoLines.{knows-nothing}
 use Rattle.reading.proofs.Laws.SectionPlaces.{section-number, section-blanks, section-end, section-first, section-range, section-place}
 use Rattle.reading.proofs.Laws.Turns.{section-none, section-turn}
-use Rattle.reading.proofs.walk.read_section.Goals as goal
+use Rattle.reading.proofs.walk.read_section.Statement.{statement}
+use Rattle.reading.proofs.walk.read_section.Tie as tie
 
-pub first_line-first-requires : goal.first_line-first-requires
-first_line-first-requires c κs = let at = c.requires.0 in section-end _ _ _ at.limit at.start at.end
+first-line-requires : tie.Need-first_line-first-requires
+first-line-requires c κs = let at = c.requires.0 in section-end _ _ _ at.limit at.start at.end
 
 -- what holds of the first line, `at`
-module _ (c : goal.After-first_line-first) where
-  abbrev start : goal.Start
-  start = c
+module _ (c : tie.After-first_line-first) where
+  abbrev start : tie.Start
+  start = c.before.before.before
 
   order : (start.args.from ≤ c.first_line-first.result.at) × (c.first_line-first.result.at ≤ start.args.to) × (start.args.to ≤ length start.args.text.now)
   order =
@@ -46,36 +47,36 @@ module _ (c : goal.After-first_line-first) where
       let at = start.requires.0 in
       omega (arith, start.requires.4, section-blanks _ _ _ at.limit at.start at.end _ c.first_line-first.ensures.1)
 
-placed : (c : goal.After-first_place-here) → let at_first = c in
+placed : (c : tie.After-first_place-here) → let at_first = c.before.before.before in
     c.first_place-here.result ≡ place_at (start at_first).args.text.now at_first.first_line-first.result.at
 placed c =
-    let at_first = c in
+    let at_first = c.before.before.before in
     let at = (start at_first).requires.0 in
     c.first_place-here.ensures ∙ section-place _ _ _ at.limit at.start at.end _ at_first.first_line-first.ensures.0 _ at.place
 
-pub returns-then-to-at : goal.returns-then-to-at
-returns-then-to-at c =
-    let at_first = c in
+returns : tie.Need-returns-then-to-at
+returns c =
+    let at_first = c.before.before in
     let bounds = order at_first in
     let same : at_first.first_line-first.result.at ≡ (start at_first).args.to = omega arith in (
       section-none _ _ _ _ _ _ (start at_first).requires.0.end at_first.first_line-first.ensures.0 c.if-to-at.true,
       (omega arith, λ i. number at_first (omega arith) ∙ ap (line_number _) same),
     )
 
-pub emit-out-requires : goal.emit-out-requires
-emit-out-requires c κs =
-    let at_test = c in
-    let at_first = at_test in
+emit-requires : tie.Need-emit-out-requires
+emit-requires c κs =
+    let at_test = c.before.before in
+    let at_first = at_test.before.before in
     let bounds = order at_first in
     let some = at_test.if-to-at.false in
     let line = number at_first (omega arith) in
     let small = line_number-le (start at_first).args.text.now at_first.first_line-first.result.at in
     search rules
 
-pub read_elements-requires : goal.read_elements-requires
-read_elements-requires c κs =
-    let at_place = c in
-    let at_first = at_place in
+read-elements-requires : tie.Need-read_elements-requires
+read-elements-requires c κs =
+    let at_place = c.before.before.before.before.before in
+    let at_first = at_place.before.before.before in
     let bounds = order at_first in (
       record { range = range at_first; place = λ i h. placed at_place; all = λ i. absurd (false≢true i); known = knows-nothing _ _ _ },
       omega arith,
@@ -84,12 +85,12 @@ read_elements-requires c κs =
       λ h. number at_first (omega arith),
     )
 
-pub returns : goal.returns
-returns c =
-    let at_read = c in
-    let at-emit = at_read in
-    let at_test = at-emit in
-    let at_first = at_test in
+returns-2 : tie.Need-returns
+returns-2 c =
+    let at_read = c.before.before in
+    let at-emit = at_read.before.before.before.before in
+    let at_test = at-emit.before.before.before in
+    let at_first = at_test.before.before in
     let bounds = order at_first in
     let line = number at_first (omega arith) in (
       at_read.read_elements.ensures.0
@@ -98,5 +99,18 @@ returns c =
       (omega (arith, at_read.read_elements.ensures.1.0), (at_read.read_elements.ensures.1.1 at_test.if-to-at.false).1),
     )
 
-pub overflow_add-n : goal.overflow_add-n
-overflow_add-n c = let n = number_small c in omega arith
+number-fits : tie.Need-overflow_add-n
+number-fits c = let n = number_small c.before in omega arith
+
+pub read_section_spec : {M : Type 1} → statement M
+read_section_spec =
+    tie.close
+    (tie.spec
+    first-line-requires
+    number-fits
+    returns
+    (λ c κs. search rules)
+    emit-requires
+    read-elements-requires
+    (λ c. search rules)
+    returns-2)

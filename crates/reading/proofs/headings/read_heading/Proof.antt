@@ -22,18 +22,19 @@ use Rattle.reading.proofs.Laws.Absorb.{absorb-any}
 use Rattle.reading.proofs.Laws.SectionPlaces.{heading-stars, heading-line, heading-start, heading-place, heading_line-order}
 use Rattle.reading.proofs.Laws.Tracked.{tracked-heading}
 use Rattle.reading.proofs.Laws.Turns.{heading-entry, default-record}
+use Rattle.reading.proofs.headings.read_heading.Statement.{statement}
+use Rattle.reading.proofs.headings.read_heading.Tie as tie
 use Rattle.reading.proofs.headings.read_heading.Lts.{then-sink, else-sink}
-use Rattle.reading.proofs.headings.read_heading.Goals as goal
 
-pub next_heading-next-requires : goal.next_heading-next-requires
-next_heading-next-requires c κs =
+next-heading-requires : tie.Need-next_heading-next-requires
+next-heading-requires c κs =
     let pre = c.requires in
     (heading-line _ _ pre.0 pre.1 _ c.line_end-inner.ensures).1
 
 -- the heading line
-module _ (c : goal.After-next_heading-next) where
-  abbrev start : goal.Start
-  start = c
+module _ (c : tie.After-next_heading-next) where
+  abbrev start : tie.Start
+  start = c.before.before.before.before.before
 
   abbrev s : List ℕ
   s = start.args.text.now
@@ -56,18 +57,18 @@ module _ (c : goal.After-next_heading-next) where
   inner-line : c.line_end-inner.result < length s → start.args.number + 1 ≡ line_number s c.line_end-inner.result
   inner-line i = ap (λ (k : ℕ). k + 1) start.requires.4 ∙ (sym (line_number-next s _ (length s) _ start.requires.1 (omega arith) c.line_end-inner.ensures i))
 
-pub heading_record-r-requires : goal.heading_record-r-requires
-heading_record-r-requires c κs = let at_next = c in (line at_next, (start at_next).requires.2, (start at_next).requires.4)
+heading-record-requires : tie.Need-heading_record-r-requires
+heading-record-requires c κs = let at_next = c.before in (line at_next, (start at_next).requires.2, (start at_next).requires.4)
 
-pub emit-out-requires : goal.emit-out-requires
-emit-out-requires c κs = (
+emit-requires : tie.Need-emit-out-requires
+emit-requires c κs = (
   elim c.if-sink.branch [ then-sink w ↦ rw w.r-is w.heading_record-r.ensures.1 | else-sink w ↦ rw (w.r-is ∙ default-record w.default-r.result w.default-r.ensures) (search rules) ],
   omega arith,
 )
 
-pub read_section-section-requires : goal.read_section-section-requires
-read_section-section-requires c κs =
-    let at_next = c in
+read-section-requires : tie.Need-read_section-section-requires
+read-section-requires c κs =
+    let at_next = c.before.before.before.before.before.before in
     let l = line at_next in
     let order = heading_line-order l in (
       record {
@@ -84,9 +85,9 @@ read_section-section-requires c κs =
     )
 
 -- the record that is emitted does as the heading's, after the earlier headings hs
-module _ (c : goal.After-emit-out) where
-  abbrev at_next : goal.After-next_heading-next
-  at_next = c
+module _ (c : tie.After-emit-out) where
+  abbrev at_next : tie.After-next_heading-next
+  at_next = c.before.before.before
 
   abbrev st : State
   st = state (start at_next).args.table.now (start at_next).args.sink
@@ -104,11 +105,11 @@ module _ (c : goal.After-emit-out) where
         | else-sink w ↦ absorb-any st _ _ 0 w.if-sink.false
       ]
 
-pub returns : goal.returns
+returns : tie.Need-returns
 unfolding heading_record
 returns c =
-    let at-section = c in
-    let at-emit = at-section in
+    let at-section = c.before.before.before in
+    let at-emit = at-section.before.before.before.before in
     let l = line (at_next at-emit) in
     let order = heading_line-order l in
     let section = rw l.end at at-section.read_section-section.ensures.0 in
@@ -118,5 +119,20 @@ returns c =
       λ hs last tracked. heading-entry _ hs _ _ _ _ (emitted at-emit hs last tracked) section,
     )
 
-pub overflow_add-number : goal.overflow_add-number
-overflow_add-number c = omega (arith, number_small c)
+number-fits : tie.Need-overflow_add-number
+number-fits c = omega (arith, number_small c.before.before.before.before.before)
+
+pub read_heading_spec : {M : Type 1} → statement M
+read_heading_spec =
+    tie.close
+    (tie.spec
+    (λ c κs. search rules)
+    (λ c κs. search rules)
+    next-heading-requires
+    heading-record-requires
+    (λ c κs. search rules)
+    emit-requires
+    number-fits
+    read-section-requires
+    (λ c. search rules)
+    returns)
