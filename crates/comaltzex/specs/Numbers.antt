@@ -19,10 +19,10 @@ use Rattle.dates.specs.declared.stamp.Timestamp.{Timestamp}
 use Rattle.dates.specs.declared.planning.Planning.{Planning}
 use Rattle.lookup.specs.Planning as Planned
 use Rattle.sheet.specs.Promises as Sheet
-use Rattle.intake.specs.declared.call.Taken as IntakeAnswer
 use Rattle.intake.specs.Book.{book_of}
 use Rattle.intake.specs.Promises as Intake
-use Rattle.sheet.specs.declared.write.Written as SheetAnswer
+use Rattle.std.specs.declared.result.Result.{Result}
+use Rattle.sheet.specs.declared.write.Refusal.{Refusal}
 use Rattle.comaltzex.specs.Stamps.{stamp_numbers}
 use Rattle.comaltzex.specs.declared.DayCount.{DayCount}
 use Rattle.comaltzex.specs.declared.FoundStamp.{FoundStamp}
@@ -108,21 +108,21 @@ plan_at s p = let a = Planned.planning s p in plan (Planned.number a) (Planned.s
 
 -- a sheet call with order buffer x and lent output t answers r and leaves t'  [02 order 5]
 pub record WritesAs (x t : List ℕ) (r : Written) (t' : List ℕ) : Type 0 where
-  pub answer : SheetAnswer.Written
+  pub answer : Result ℕ Refusal
   pub settled : Sheet.Settled x t answer t'
-  pub number : r.number ≡ answer.number
-  pub count : r.count ≡ answer.count
+  pub number : r.number ≡ Sheet.answer_number answer
+  pub count : r.count ≡ Sheet.answer_count answer
 
 -- a call of the intake with book x, bytes in use u and order buffer y answers r and leaves x'  [02 order 6]
 pub record TakesAs (x : List ℕ) (u : ℕ) (y : List ℕ) (r : Taken) (x' : List ℕ) : Type 0 where
-  pub answer : IntakeAnswer.Taken
+  pub answer : Intake.Taken
   pub settled : Intake.Settled (book_of x u) y answer x'
   pub number : r.number ≡ answer.number
   pub count : r.count ≡ answer.used
 
 -- and one with log y
 pub record PlaysAs (x : List ℕ) (u : ℕ) (y : List ℕ) (r : Taken) (x' : List ℕ) : Type 0 where
-  pub answer : IntakeAnswer.Taken
+  pub answer : Intake.Taken
   pub settled : Intake.LogSettled (book_of x u) y answer x'
   pub number : r.number ≡ answer.number
   pub count : r.count ≡ answer.used

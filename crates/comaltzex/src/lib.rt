@@ -267,10 +267,15 @@ pub struct Written {
 pub extern "C" fn comaltzex_write_sheet(order: &[u8], out: &mut [u8]) -> Written
     ensures { WritesAs order.now out.old result out.new }
 {
-    let written = write_sheet(order, out);
-    Written {
-        number: written.number,
-        count: written.count,
+    match write_sheet(order, out) {
+        Ok(count) => Written {
+            number: number::DONE,
+            count,
+        },
+        Err(refusal) => Written {
+            number: refusal.number(),
+            count: refusal.needed(),
+        },
     }
 }
 
@@ -287,10 +292,15 @@ pub struct Taken {
 pub extern "C" fn comaltzex_intake(book: &mut [u8], used: usize, order: &[u8]) -> Taken
     ensures { TakesAs book.old used order.now result book.new }
 {
-    let taken = intake(book, used, order);
-    Taken {
-        number: taken.number,
-        count: taken.used,
+    match intake(book, used, order) {
+        Ok(count) => Taken {
+            number: number::DONE,
+            count,
+        },
+        Err(refusal) => Taken {
+            number: refusal.number(),
+            count: used,
+        },
     }
 }
 
@@ -299,10 +309,15 @@ pub extern "C" fn comaltzex_intake(book: &mut [u8], used: usize, order: &[u8]) -
 pub extern "C" fn comaltzex_intake_log(book: &mut [u8], used: usize, log: &[u8]) -> Taken
     ensures { PlaysAs book.old used log.now result book.new }
 {
-    let played = intake_log(book, used, log);
-    Taken {
-        number: played.number,
-        count: played.used,
+    match intake_log(book, used, log) {
+        Ok(count) => Taken {
+            number: number::DONE,
+            count,
+        },
+        Err(cut) => Taken {
+            number: cut.number(),
+            count: used,
+        },
     }
 }
 
