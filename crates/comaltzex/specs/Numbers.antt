@@ -1,15 +1,15 @@
 -- What the C interface promises: the promises of the entry points, in the numbers of documents 01 and 02.
 use Rattle.std.specs.Prelude.{◌≡◌, List, ℕ, ◌-◌, eqb, length}
 use Rattle.text.specs.Parts.{part}
-use Rattle.reading.specs.declared.answer.Answer.{Answer}
-use Rattle.reading.specs.Answers.{number, count}
+use Rattle.reading.specs.Answers.{Answer, number, count}
 use Rattle.reading.specs.Promises.{Settled}
 use Rattle.lookup.specs.Lookup as Lookup
 use Rattle.lookup.specs.Defaults.{with_defaults, whose, answer}
 use Rattle.lookup.specs.Promises.{Tied, SourcedFrom}
 use Rattle.rules.specs.Closers.{search_from}
 use Rattle.rules.specs.declared.closer.Closer.{Closer}
-use Rattle.rules.specs.declared.closer.Closer.TheVariants.{At, Nothing}
+use Rattle.std.specs.declared.option.Option.{Option as Maybe}
+use Rattle.std.specs.declared.option.Option.TheVariants.{None, Some}
 use Rattle.dates.specs.Days as Days
 use Rattle.dates.specs.Promises.{Counted}
 use Rattle.dates.specs.Reads.{pick}
@@ -39,17 +39,17 @@ abbrev pub version : ℕ
 version = 9
 
 -- a closer in numbers: whether there is one, and its line's ends; all 0 where there is none
-abbrev pub found_number : Closer → ℕ
-found_number (At a e n) = 1
-found_number Nothing = 0
+abbrev pub found_number : Maybe Closer → ℕ
+found_number (Some c) = 1
+found_number None = 0
 
-abbrev pub closer_start : Closer → ℕ
-closer_start (At a e n) = a
-closer_start Nothing = 0
+abbrev pub closer_start : Maybe Closer → ℕ
+closer_start (Some c) = c.start
+closer_start None = 0
 
-abbrev pub closer_end : Closer → ℕ
-closer_end (At a e n) = e
-closer_end Nothing = 0
+abbrev pub closer_end : Maybe Closer → ℕ
+closer_end (Some c) = c.end
+closer_end None = 0
 
 -- a reading call with text s and lent table t answers r and leaves t'
 pub record ReadsAs (s t : List ℕ) (r : Reading) (t' : List ℕ) : Type 0 where
@@ -89,7 +89,7 @@ pub record CountsAs (a b : Date) (r : DayCount) : Type 0 where
   pub counted : Counted
 
 -- a timestamp with the byte after it, which is 0 for none
-abbrev pub found_stamp : Timestamp → ℕ → FoundStamp
+abbrev pub found_stamp : Maybe Timestamp → ℕ → FoundStamp
 found_stamp t e =
     let n = stamp_numbers t in
     record { kind = n.kind; end = pick (eqb n.kind 0) 0 e; first = n.first; second = n.second }

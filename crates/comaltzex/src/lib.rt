@@ -16,7 +16,7 @@ pub mod value;
 
 use crate::stamp::{MomentNumbers, Stamp, stamp_numbers};
 use crate::value::{SourcedValue, Value, sourced_numbers, value_numbers};
-use dates::days::days_between;
+use dates::days::{NoDay, days_between};
 use dates::planning::Planning;
 use dates::read::read_timestamp;
 use dates::stamp::{Date, Timestamp};
@@ -25,9 +25,8 @@ use intake::log::intake_log;
 use lookup::defaults::lookup_with_defaults;
 use lookup::lookup::lookup;
 use lookup::planning::{Refusal as Unplanned, planning};
-use reading::answer::Answer;
+use reading::answer::Refusal;
 use reading::read::read;
-use rules::closer::Closer;
 use rules::opener::search_from;
 use sheet::write::write_sheet;
 use stream::call::{Streamed, end, piece};
@@ -55,10 +54,10 @@ pub extern "C" fn comaltzex_read(text: &[u8], table: &mut [u32]) -> Reading
     ensures { ReadsAs text.now table.old result table.new }
 {
     match read(text, table) {
-        Answer::Done(n) => answered(number::DONE, n),
-        Answer::TooLong => answered(number::TOO_LONG, 0),
-        Answer::TooDeep => answered(number::TOO_DEEP, 0),
-        Answer::NoRoom(n) => answered(number::NO_ROOM, n),
+        Ok(n) => answered(number::DONE, n),
+        Err(Refusal::TooLong) => answered(number::TOO_LONG, 0),
+        Err(Refusal::TooDeep) => answered(number::TOO_DEEP, 0),
+        Err(Refusal::NoRoom(n)) => answered(number::NO_ROOM, n),
     }
 }
 
@@ -66,10 +65,7 @@ pub extern "C" fn comaltzex_read(text: &[u8], table: &mut [u32]) -> Reading
 fn answered(number: u32, count: usize) -> Reading
     ensures { result ≡ record { number = number; count = count } }
 {
-    Reading {
-        number: number,
-        count: count,
-    }
+    Reading { number, count }
 }
 
 // Looks a key up in the property drawer of the heading line that starts at a byte.
@@ -109,19 +105,14 @@ pub extern "C" fn comaltzex_find_closer(text: &[u8], at: usize, end: usize) -> C
     ensures { SearchesAs text.now at end result }
 {
     let search = search_from(text, at, end);
-    let closer = search.closer;
-    match closer {
-        Closer::At {
-            start,
-            end,
-            before: _,
-        } => ClosingLine {
+    match search.closer {
+        Some(closer) => ClosingLine {
             found: 1,
-            start: start,
-            end: end,
+            start: closer.start,
+            end: closer.end,
             compared: search.compared,
         },
-        Closer::Nothing => ClosingLine {
+        None => ClosingLine {
             found: 0,
             start: NOWHERE,
             end: NOWHERE,
@@ -150,20 +141,21 @@ pub extern "C" fn comaltzex_days_between(
 ) -> DayCount
     ensures { CountsAs (date_of year month day) (date_of year2 month2 day2) result }
 {
-    let first = Date {
-        year: year,
-        month: month,
-        day: day,
-    };
+    let first = Date { year, month, day };
     let second = Date {
         year: year2,
         month: month2,
         day: day2,
     };
-    let days = days_between(first, second);
-    DayCount {
-        number: days.number,
-        days: days.days,
+    match days_between(first, second) {
+        Ok(days) => DayCount {
+            number: number::DONE,
+            days,
+        },
+        Err(NoDay) => DayCount {
+            number: number::NO_DAY,
+            days: 0,
+        },
     }
 }
 
@@ -184,7 +176,7 @@ pub extern "C" fn comaltzex_timestamp(text: &[u8], at: usize) -> FoundStamp
 {
     let to = text.len();
     if to < at {
-        return found_stamp(Timestamp::Nothing, 0);
+        return found_stamp(None, 0);
     }
     let stamp = read_timestamp(text, at, to);
     let timestamp = stamp.timestamp;
@@ -192,7 +184,7 @@ pub extern "C" fn comaltzex_timestamp(text: &[u8], at: usize) -> FoundStamp
 }
 
 // A timestamp in numbers, with the byte after it; 0 for none.
-fn found_stamp(timestamp: Timestamp, end: usize) -> FoundStamp
+fn found_stamp(timestamp: Option<Timestamp>, end: usize) -> FoundStamp
     ensures { result ≡ found_stamp timestamp end }
 {
     let stamp = stamp_numbers(timestamp);
@@ -201,8 +193,8 @@ fn found_stamp(timestamp: Timestamp, end: usize) -> FoundStamp
     FoundStamp {
         kind: stamp.kind,
         end: if stamp.kind == 0 { 0 } else { end },
-        first: first,
-        second: second,
+        first,
+        second,
     }
 }
 
@@ -247,10 +239,10 @@ fn no_plan(number: u32) -> Plan
     ensures { result ≡ plan number no_stamps }
 {
     Plan {
-        number: number,
-        closed: stamp_numbers(Timestamp::Nothing),
-        deadline: stamp_numbers(Timestamp::Nothing),
-        scheduled: stamp_numbers(Timestamp::Nothing),
+        number,
+        closed: stamp_numbers(None),
+        deadline: stamp_numbers(None),
+        scheduled: stamp_numbers(None),
     }
 }
 

@@ -1,9 +1,7 @@
 ghost use Rattle.std.specs.Prelude.{◌≡◌, ◌≤◌};
 ghost use Rattle.comaltzex.specs.Stamps as spec;
 
-use dates::stamp::{
-    Bracket, Clock, Delay, Interval, Limit, Mark, Moment, Repeat, Repeater, Timestamp,
-};
+use dates::stamp::{Bracket, Delay, Interval, Mark, Moment, Repeat, Repeater, Time, Timestamp};
 
 #[repr(C)]
 #[derive(Clone, Copy)]
@@ -64,16 +62,16 @@ pub struct Stamp {
     pub second: MomentNumbers,
 }
 
-fn clock_numbers(clock: Clock) -> ClockNumbers
+fn clock_numbers(clock: Option<Time>) -> ClockNumbers
     ensures { result ≡ spec.clock_numbers clock }
 {
     match clock {
-        Clock::Nothing => ClockNumbers {
+        None => ClockNumbers {
             has: 0,
             hour: 0,
             minute: 0,
         },
-        Clock::At(time) => ClockNumbers {
+        Some(time) => ClockNumbers {
             has: 1,
             hour: time.hour,
             minute: time.minute,
@@ -107,12 +105,12 @@ fn no_interval() -> IntervalNumbers
     IntervalNumbers { count: 0, unit: 0 }
 }
 
-fn limit_numbers(limit: Limit) -> IntervalNumbers
+fn limit_numbers(limit: Option<Interval>) -> IntervalNumbers
     ensures { result ≡ spec.limit_numbers limit }
 {
     match limit {
-        Limit::Nothing => no_interval(),
-        Limit::Within(interval) => interval_numbers(interval),
+        None => no_interval(),
+        Some(interval) => interval_numbers(interval),
     }
 }
 
@@ -176,26 +174,26 @@ fn date_with(
             day: date.day,
         },
         clock: clock_numbers(clock),
-        repeat: repeat,
-        delay: delay,
-        swapped: swapped,
+        repeat,
+        delay,
+        swapped,
     }
 }
 
-fn moment_numbers(moment: Moment, repeater: Repeater) -> MomentNumbers
+fn moment_numbers(moment: Moment, repeater: Option<Repeater>) -> MomentNumbers
     ensures { result ≡ spec.moment_numbers moment repeater }
 {
     match repeater {
-        Repeater::Nothing => date_with(moment, no_repeat(), no_delay(), 0),
-        Repeater::Repeats(repeat) => date_with(moment, repeat_numbers(repeat), no_delay(), 0),
-        Repeater::Delays(delay) => date_with(moment, no_repeat(), delay_numbers(delay), 0),
-        Repeater::RepeatsDelays(repeat, delay) => date_with(
+        None => date_with(moment, no_repeat(), no_delay(), 0),
+        Some(Repeater::Repeats(repeat)) => date_with(moment, repeat_numbers(repeat), no_delay(), 0),
+        Some(Repeater::Delays(delay)) => date_with(moment, no_repeat(), delay_numbers(delay), 0),
+        Some(Repeater::RepeatsDelays(repeat, delay)) => date_with(
             moment,
             repeat_numbers(repeat),
             delay_numbers(delay),
             0,
         ),
-        Repeater::DelaysRepeats(delay, repeat) => date_with(
+        Some(Repeater::DelaysRepeats(delay, repeat)) => date_with(
             moment,
             repeat_numbers(repeat),
             delay_numbers(delay),
@@ -236,33 +234,33 @@ fn kind_number(bracket: Bracket, kind: u32) -> u32
 }
 
 // A timestamp in numbers.
-pub fn stamp_numbers(timestamp: Timestamp) -> Stamp
+pub fn stamp_numbers(timestamp: Option<Timestamp>) -> Stamp
     ensures { result ≡ spec.stamp_numbers timestamp }
 {
     match timestamp {
-        Timestamp::Nothing => Stamp {
+        None => Stamp {
             kind: 0,
             first: no_moment(),
             second: no_moment(),
         },
-        Timestamp::Single(bracket, moment, repeater) => Stamp {
+        Some(Timestamp::Single(bracket, moment, repeater)) => Stamp {
             kind: kind_number(bracket, 1),
             first: moment_numbers(moment, repeater),
             second: no_moment(),
         },
-        Timestamp::Times(bracket, moment, until, repeater) => {
+        Some(Timestamp::Times(bracket, moment, until, repeater)) => {
             let date = moment.date;
             let end = Moment {
-                date: date,
-                clock: Clock::At(until),
+                date,
+                clock: Some(until),
             };
             Stamp {
                 kind: kind_number(bracket, 2),
                 first: moment_numbers(moment, repeater),
-                second: moment_numbers(end, Repeater::Nothing),
+                second: moment_numbers(end, None),
             }
         }
-        Timestamp::Dates(bracket, moment, repeater, end, after) => Stamp {
+        Some(Timestamp::Dates(bracket, moment, repeater, end, after)) => Stamp {
             kind: kind_number(bracket, 3),
             first: moment_numbers(moment, repeater),
             second: moment_numbers(end, after),

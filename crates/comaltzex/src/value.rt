@@ -58,10 +58,10 @@ fn refused(number: u32, further: usize) -> Value
     ensures { result ≡ record { number = number; start = 0; end = 0; further = further } }
 {
     Value {
-        number: number,
+        number,
         start: 0,
         end: 0,
-        further: further,
+        further,
     }
 }
 
@@ -80,7 +80,7 @@ fn sourced_value(whose: u32, value: Value) -> SourcedValue
 {
     SourcedValue {
         number: value.number,
-        whose: whose,
+        whose,
         start: value.start,
         end: value.end,
         further: value.further,

@@ -9,10 +9,10 @@ use Rattle.text.specs.Runs.{word, begins}
 use Rattle.text.specs.Parts.{part}
 use Rattle.text.proofs.Laws.Parts.{part-nil, part_length}
 use Rattle.dates.specs.Stamps.{timestamp}
-use Rattle.dates.specs.declared.stamp.Timestamp.TheVariants.{Nothing}
+use Rattle.std.specs.declared.option.Option.TheVariants.{None}
 use Rattle.comaltzex.proofs.comaltzex_timestamp.Goals as goal
 
-timestamp-past : (s : List ℕ) (p : ℕ) → length s < p → timestamp (part s p (length s)) ≡ (Nothing, [])
+timestamp-past : (s : List ℕ) (p : ℕ) → length s < p → timestamp (part s p (length s)) ≡ (None, [])
 unfolding timestamp begins word
 timestamp-past s p h = ap timestamp (part-nil s p (length s) (omega arith))
 
