@@ -13,12 +13,6 @@ use Rattle.std.proofs.lemmas.Slice.{take-put_mid}
 use Rattle.std.specs.declared.option.Option.{Option}
 use Rattle.orgtable.specs.Input.{InputHolds}
 
--- What there is no more of where a reader gives nothing.
-at_end : (a b : Option (List ℕ)) → Consumes a b [] → IsAtEnd b → IsAtEnd a
-at_end None b p q = tt
-at_end (Some a) None p q = absurd p
-at_end (Some a) (Some b) p q = p ∙ q
-
 -- One read after others.
 pub consumes-more : (a b c : Option (List ℕ)) (xs ys : List ℕ) → Consumes a b xs → Consumes b c ys → Consumes a c (xs ++ ys)
 consumes-more None b c xs ys p q = tt
