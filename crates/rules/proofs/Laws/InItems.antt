@@ -15,11 +15,10 @@ use Rattle.text.proofs.Laws.Lines.{size-head_line, head_line-take, size-take-mon
 use Rattle.text.proofs.Laws.LinesIn.{lines_in-next, lines_in-take, lines_in-step, line_in-to, line_in-some, first_line-here, first_line-skip}
 use Rattle.text.proofs.Laws.LineStarts.{line_start-in}
 use Rattle.text.proofs.Laws.MidLine.{line_in-same}
-use Rattle.rules.specs.Kind
 use Rattle.rules.specs.Items.{width, item_start}
 use Rattle.rules.specs.Places.{is_in_line, place_at}
 use Rattle.rules.specs.Kind.{is_run}
-use Rattle.rules.specs.Elements.{Found, found}
+use Rattle.rules.specs.Elements.{Found}
 use Rattle.rules.specs.Lists.{item_lines, item}
 use Rattle.rules.specs.FirstRule.{paragraph_lines, paragraph, element, element_at, item_at}
 use Rattle.rules.proofs.Laws.Items.{item_start-le, item_start-some}

@@ -14,7 +14,6 @@ use borrow.Table.Steps.{cases}
 use borrow.Author.Tests.{eq-eqb}
 use Rattle.text.specs.Lines.{Line, blank_line, head_line, tail_lines}
 use Rattle.text.proofs.Laws.Lines.{blank_line-nil, head_line-take}
-use Rattle.rules.specs.Kind
 use Rattle.rules.specs.Items.{is_some, width, is_item}
 use Rattle.rules.specs.Places.{allows_rules}
 use Rattle.rules.specs.Elements.{when, first_of, rules3to9, rules1to9}
