@@ -1,24 +1,22 @@
 -- Laws of a lookup with defaults: whose answer it is, and that its part lies in that text.
 -- Assumes nothing.
 use mathlib.Core.Path.{◌≡◌}
-use mathlib.Core.Bool.{true, false, not}
+use mathlib.Core.Bool.{true, false}
 use mathlib.Core.List.{List}
 use Prim.Native.Nat.{ℕ, ◌<◌}
 use native.Mathlib.Omega.{arith}
-use lib.Dec.{eqb}
 use lib.ListN.{length}
 use borrow.Table.Steps.{cases}
-use Rattle.text.specs.Number
 use Rattle.text.specs.Limits.{text_limit}
 use Rattle.text.specs.Parts.{next_line}
 use Rattle.rules.specs.Headings.{is_heading_up_to}
 use Rattle.rules.proofs.Laws.Headings.{next_line-up_to}
 use Rattle.std.specs.declared.result.Result.TheVariants.{Err}
-use Rattle.lookup.specs.declared.lookup.Refusal.TheVariants.{TooLong, NoKey}
+use Rattle.lookup.specs.declared.lookup.Refusal.TheVariants.{TooLong}
 use Rattle.lookup.specs.declared.defaults.Sourced.{Sourced}
 use Rattle.lookup.specs.declared.defaults.Sourced.TheVariants.{Order, Defaults}
-use Rattle.lookup.specs.Lookup.{Answer, lookup, number, Inside}
-use Rattle.lookup.specs.Defaults.{first_heading, of_defaults, is_reserved, asks_defaults, with_defaults}
+use Rattle.lookup.specs.Lookup.{Answer, lookup, Inside}
+use Rattle.lookup.specs.Defaults.{first_heading, of_defaults, asks_defaults, with_defaults}
 use Rattle.lookup.proofs.Laws.Lookup.{lookup-long, lookup-inside}
 
 -- ---- the defaults' own answer

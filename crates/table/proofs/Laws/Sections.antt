@@ -9,7 +9,6 @@ use Rattle.text.specs.Parts.{first_line}
 use Rattle.text.proofs.Laws.LinesIn.{first_line-from, first_line-to, next_line-from, next_line-to, first_line-next, first_line-not}
 use Rattle.rules.specs.Headings.{is_heading}
 use Rattle.rules.proofs.Laws.Headings.{heading-nonblank}
-use Rattle.table.specs.Records.{at}
 use Rattle.table.specs.Sections.{line_at, section_end, section_start}
 use Rattle.table.specs.declared.record.Record.{Record}
 

@@ -3,7 +3,6 @@
 -- Assumes nothing.
 use mathlib.Core.Path.{◌≡◌, refl}
 use mathlib.Core.List.{List}
-use mathlib.Core.Option.{some}
 use Prim.Native.Nat.{ℕ, zero, suc, ◌+◌, ◌≤◌, ◌<◌}
 use native.Mathlib.Omega.{arith}
 use lib.Dec.{T}
@@ -22,8 +21,7 @@ use Rattle.rules.proofs.Laws.Elements.{fine-element}
 use Rattle.rules.proofs.Laws.Kind.{sections-low, elements-no-property, elements-no-table, elements-no-list, Holds, sections, elements, properties, rows, items, holder-holds}
 use Rattle.table.specs.Makers.{found_record, element_record, item_record, line_record, child_record}
 use Rattle.table.specs.Proper.{HasFound, IsElementRecord, IsItemRecord, IsLineRecord}
-use Rattle.table.specs.Reading.{contents, section}
-use Rattle.table.specs.Records.{at}
+use Rattle.table.specs.Reading.{contents}
 use Rattle.table.specs.Sections.{row_detail}
 use Rattle.table.specs.Closers.{end_in}
 use Rattle.table.proofs.Basics.{split}

@@ -4,7 +4,6 @@
 use mathlib.Core.Path.{◌≡◌, refl, subst}
 use mathlib.Core.Logic.{◌⊎◌, inl, inr}
 use mathlib.Core.List.{List, [], ◌∷◌, ◌++◌, append-nil, append_assoc}
-use mathlib.Core.Option.{none}
 use Prim.Native.Nat.{ℕ, suc, ◌+◌, ◌≤◌, ◌<◌}
 use native.Mathlib.Omega.{arith}
 use lib.Dec.{T}
@@ -15,7 +14,6 @@ use Rattle.rules.specs.Kind.{is_holder}
 use Rattle.rules.proofs.Basics.{All, all_nil, all_cons, all_append, all_map}
 use Rattle.rules.proofs.Laws.Kind.{sections-low}
 use Rattle.table.specs.Proper.{with_parent, Tiled}
-use Rattle.table.specs.Reading.{section}
 use Rattle.table.specs.Records.{at}
 use Rattle.table.specs.Closers.{end_in, Sought}
 use Rattle.table.proofs.Basics.{on, split}

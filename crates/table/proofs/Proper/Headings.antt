@@ -5,7 +5,6 @@ use mathlib.Core.Path.{◌≡◌, refl, ap, ◌∙◌, subst}
 use mathlib.Core.Logic.{◌⊎◌, inl}
 use mathlib.Core.Bool.{true}
 use mathlib.Core.List.{List, ◌∷◌, ◌++◌}
-use mathlib.Core.Option.{some}
 use Prim.Native.Nat.{ℕ, suc, ◌+◌, ◌≤◌, ◌<◌}
 use native.Mathlib.Omega.{arith}
 use lib.Dec.{T}
@@ -17,7 +16,7 @@ use Rattle.rules.specs.Kind.{holds_sections}
 use Rattle.rules.proofs.Basics.{All, all_cons, all_map}
 use Rattle.rules.proofs.Laws.Headings.{stars-some, up_to-no, up_to-more}
 use Rattle.table.specs.Proper.{with_parent, IsHeadingRecord, IsTopRecord, Within, Nearest}
-use Rattle.table.specs.Reading.{section, nearest}
+use Rattle.table.specs.Reading.{nearest}
 use Rattle.table.specs.Records.{at}
 use Rattle.table.specs.Sections.{line_at, section_end}
 use Rattle.table.specs.Closers.{closers_end}

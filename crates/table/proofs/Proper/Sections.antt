@@ -2,7 +2,6 @@
 -- Assumes nothing.
 use mathlib.Core.Path.{◌≡◌, refl, sym, ap, ◌∙◌, subst}
 use mathlib.Core.List.{List, [], ◌∷◌, ◌++◌}
-use mathlib.Core.Option.{none, some}
 use Prim.Native.Nat.{ℕ, suc, ◌+◌, ◌-◌, ◌*◌, ◌≤◌, ◌<◌}
 use native.Mathlib.Omega.{arith}
 use lib.Dec.{T}
@@ -10,7 +9,6 @@ use lib.ListN.{length, drop, length-drop}
 use Rattle.text.specs.Parts.{first_line, LineStart}
 use Rattle.text.proofs.Laws.LinesIn.{first_line-from, first_line-to, first_line-next, next_line-wider}
 use Rattle.text.proofs.Laws.LineStarts.{line_start-next, line_start-first}
-use Rattle.rules.specs.FirstRule.{element}
 use Rattle.rules.specs.Headings.{is_heading, is_heading_up_to}
 use Rattle.rules.specs.Kind
 use Rattle.rules.specs.Kind.{holds_sections, holds_elements, is_holder, is_bound}

@@ -12,7 +12,6 @@ use borrow.Table.Steps.{cases}
 use Rattle.text.specs.Lines.{Line}
 use Rattle.text.specs.LineNumbers.{line_number}
 use Rattle.text.specs.Parts.{first_line}
-use Rattle.rules.specs.FirstRule.{element}
 use Rattle.rules.specs.Headings.{is_heading}
 use Rattle.rules.specs.Kind
 use Rattle.rules.specs.Kind.{is_holder}
@@ -20,7 +19,6 @@ use Rattle.rules.proofs.Basics.{all_of}
 use Rattle.rules.proofs.Laws.Kind.{Holds, sections, elements, properties, rows, items, holder-holds}
 use Rattle.table.specs.Proper.{with_parent, children, Tiled, Has, IsHeadingRecord, IsSectionRecord, IsTopRecord, HasFound, IsElementRecord, IsItemRecord, IsLineRecord}
 use Rattle.table.specs.Proper.{EachLater, Proper}
-use Rattle.table.specs.Reading.{section}
 use Rattle.table.specs.Records.{no_record, at, up}
 use Rattle.table.specs.Sections.{line_at, row_detail}
 use Rattle.table.proofs.Laws.Proper.{with_parent-append, with_parent-yes, with_parent-none}

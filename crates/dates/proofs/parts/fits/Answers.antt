@@ -1,6 +1,5 @@
 -- `dates::parts::fits` meets its contract.
 -- Assumes nothing.
-use borrow.Author.Rules.{rules}
 use borrow.Author.Tests.{eq-eqb, ne_eqb}
 use Rattle.dates.specs.Reads.{fits}
 use Rattle.dates.proofs.parts.fits.Goals as goal

@@ -1,6 +1,5 @@
 -- `dates::parts::skip_gap` meets its contract.
 -- Assumes nothing.
-use borrow.Author.Rules.{rules}
 use native.Mathlib.Omega.{arith}
 use Rattle.dates.proofs.Laws.Reads.{gap-none, gap-some}
 use Rattle.dates.proofs.parts.skip_gap.Goals as goal

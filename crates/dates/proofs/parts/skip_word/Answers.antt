@@ -1,9 +1,7 @@
 -- `dates::parts::skip_word` meets its contract.
 -- Assumes nothing.
-use borrow.Author.Rules.{rules}
 use mathlib.Core.Path.{sym, ◌∙◌}
-use native.Mathlib.Omega.{arith}
-use Rattle.dates.proofs.Laws.Reads.{begins-room, expect-some, expect-none}
+use Rattle.dates.proofs.Laws.Reads.{expect-some, expect-none}
 use Rattle.dates.proofs.parts.skip_word.Goals as goal
 
 pub returns-then-begins_with : goal.returns-then-begins_with
