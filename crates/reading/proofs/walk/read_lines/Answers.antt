@@ -21,7 +21,7 @@ overflow_add-result c = omega (arith, lines-le (goal.at.overflow_add-result c).T
 
 pub returns-then-not-sink : goal.returns-then-not-sink
 returns-then-not-sink c = record {
-  takes = lines-counted c.args.text.now c.args.rows _ c.args.parent c.args.depth _ _ _ _ (not-true _ c.if-not-sink.true)
+  takes = lines-counted _ _ _ _ _ _ _ _ _ (not-true _ c.if-not-sink.true)
       c.requires.lines_value.2 c.requires.lines_value.0 (omega arith) c.requires.lines_value.1;
   from_bound = omega (arith, lines-le (goal.at.returns-then-not-sink c).Then-not-sink);
 }
@@ -73,11 +73,5 @@ loop-at-preserved c =
       line = number line;
     }
 
-pub returns : goal.returns
-returns c =
-    let loop = c.loop-at in
-    let args = c.args in
-    record {
-      takes = sym (lines_none args.text.now args.rows _ args.parent args.depth _ loop.out.count _ c.loop-at-test.false) ∙ loop.invariant.same;
-      from_bound = omega arith;
-    }
+pub returns-clause-takes : goal.returns-clause-takes
+returns-clause-takes c = sym (lines_none _ _ _ _ _ _ _ _ c.loop-at-test.false) ∙ c.loop-at.invariant.same
