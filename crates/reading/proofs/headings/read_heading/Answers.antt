@@ -1,6 +1,6 @@
 -- `reading::headings::read_heading` meets its contract: the record that is emitted does as the heading's, and its section follows.
 -- Assumes nothing.
-use Rattle.std.proofs.Common.{◌≡◌, sym, ap, ◌∙◌, ℕ, ◌+◌, ◌*◌, ◌≤◌, length, arith}
+use Rattle.std.proofs.Common.{◌≡◌, sym, ap, ◌∙◌, ℕ, ◌+◌, ◌≤◌, length, arith}
 use borrow.Author.Rules.{rules}
 use Rattle.text.specs.Limits.{text_limit}
 use Rattle.text.specs.Parts.{next_line}
@@ -39,7 +39,7 @@ line c =
 
 -- its number
 number_small : (c : After-next_heading-next) → c.args.number ≤ text_limit
-number_small c = omega (arith, c.requires.4, line_number-le c.args.text.now c.args.at, c.requires.0.limit, c.requires.1)
+number_small c = omega (arith, line_number-le c.args.text.now c.args.at)
 
 pub heading_record-r-requires : goal.heading_record-r-requires
 heading_record-r-requires c = (line (goal.at.heading_record-r-requires c).After-next_heading-next, c.requires.2, c.requires.4)
@@ -98,9 +98,7 @@ returns c =
     let l = line (goal.at.returns c).After-next_heading-next in
     let order = heading_line-order l in
     let section = rw l.end at c.read_section-section.ensures.takes in
-    let count : c.read_section-section.result.sink.count ≤ 2 * c.next_heading-next.result + 2 =
-    omega (arith, c.read_section-section.ensures.from_bound.0, c.emit-out.ensures.count_bound, c.requires.3, order) in
     record {
-      at_lt_next = (omega arith, l.next ∙ ap (next_line is_heading c.args.text.now) l.end, count, c.read_section-section.ensures.from_bound.1);
+      at_lt_next = (omega arith, l.next ∙ ap (next_line is_heading c.args.text.now) l.end, omega arith, c.read_section-section.ensures.from_bound.1);
       takes = λ hs last tracked. heading-entry _ hs _ _ _ _ (emitted (goal.at.returns c).After-emit-out hs last tracked) section;
     }

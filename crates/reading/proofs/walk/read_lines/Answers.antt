@@ -48,7 +48,7 @@ line_record-r-requires c = (
 pub emit-out-requires : goal.emit-out-requires
 emit-out-requires c =
     let line = here (goal.at.emit-out-requires c).After-line_at-line in
-    (rw c.line_record-r.ensures (line_small _ _ _ c.args.parent line c.args.rows (omega arith) (omega arith)), omega arith)
+    (rw c.line_record-r.ensures (line_small _ _ _ _ line _ (omega arith) (omega arith)), omega arith)
 
 pub overflow_add-n : goal.overflow_add-n
 overflow_add-n c =
@@ -67,7 +67,7 @@ loop-at-preserved c =
       order = omega arith;
       count = omega arith;
       size = c.emit-out.auto.table ∙ inv.size;
-      same = line-turn _ _ _ _ c.args.parent _ c.args.rows _ _ _ c.loop-at-test.true (omega arith) c.line_at-line.ensures c.line_record-r.ensures
+      same = line-turn _ _ _ _ _ _ _ _ _ _ c.loop-at-test.true (omega arith) c.line_at-line.ensures c.line_record-r.ensures
           c.emit-out.ensures.result_after
           ∙ inv.same;
       line = number line;

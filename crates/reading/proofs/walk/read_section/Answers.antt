@@ -80,8 +80,5 @@ returns c =
       takes = c.read_elements.ensures.takes
           ∙ section-turn _ _ _ _ _ _ c.requires.0.end c.first_line-first.ensures.0 _ c.if-to-at.false
           (rw line at c.emit-out.ensures.result_after);
-      from_bound = (
-        omega (arith, c.read_elements.ensures.from_bound.0),
-        (c.read_elements.ensures.from_bound.1 c.if-to-at.false).1,
-      );
+      from_bound = (omega arith, (c.read_elements.ensures.from_bound.1 c.if-to-at.false).1);
     }
