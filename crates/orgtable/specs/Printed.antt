@@ -2,11 +2,10 @@
 use Rattle.std.specs.Prelude.{true, false, List, [], ◌∷◌, ◌++◌, ℕ, zero, suc, ◌+◌, ◌*◌, ◌/◌, ◌%◌, ltb, eqb, take, drop}
 use Rattle.text.specs.Number
 use Rattle.text.specs.Runs.{word}
-use Rattle.reading.specs.declared.answer.Answer.{Answer}
-use Rattle.reading.specs.declared.answer.Answer.TheVariants.{Done, TooLong, TooDeep, NoRoom}
+use Rattle.std.specs.declared.result.Result.TheVariants.{Ok, Err}
 use Rattle.table.specs.Records.{record_size}
 use Rattle.table.specs.Reading.{reading}
-use Rattle.reading.specs.Answers.{answer, number, count, leaves, OpenAnswers}
+use Rattle.reading.specs.Answers.{Answer, answer, number, count, leaves, OpenAnswers}
 
 abbrev pub newline : ℕ
 newline = 10
@@ -52,10 +51,8 @@ printed_text s t = let a = answer s t in printed (number a) (count a) (leaves (n
 
 -- how many records of the table are printed
 abbrev pub shown : Answer → ℕ
-shown (Done n) = n
-shown TooLong = 0
-shown TooDeep = 0
-shown (NoRoom n) = 0
+shown (Ok n) = n
+shown (Err e) = 0
 
 -- a number of a table has at most ten digits, and a byte follows it; a record's line has eight of these
 abbrev pub cell_size : ℕ

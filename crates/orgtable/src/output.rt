@@ -9,7 +9,7 @@ ghost use Rattle.orgtable.specs.Printed.{decimal, line, record_lines, refused, p
 
 use crate::page::Page;
 use crate::trouble::Trouble;
-use reading::answer::Answer;
+use reading::answer::Refusal;
 use reading::read::read;
 use std::io::Write;
 use table::record;
@@ -92,16 +92,16 @@ impl Page {
     }
 
     // What is printed for an answer and the table that it left.
-    fn push_answer(&mut self, answer: Answer, table: &[u32])
+    fn push_answer(&mut self, answer: Result<usize, Refusal>, table: &[u32])
         requires room { (length self.old + 50 ≤ page_size) × (length self.old + shown answer * line_size ≤ page_size) }
         requires records { shown answer * record_size ≤ length table.now }
         ensures { self.new ≡ self.old ++ printed (number answer) (count answer) table.now }
     {
         match answer {
-            Answer::Done(count) => self.push_table(table, count),
-            Answer::TooLong => self.push_refusal(number::TOO_LONG),
-            Answer::TooDeep => self.push_refusal(number::TOO_DEEP),
-            Answer::NoRoom(count) => self.push_need(number::NO_ROOM, count),
+            Ok(count) => self.push_table(table, count),
+            Err(Refusal::TooLong) => self.push_refusal(number::TOO_LONG),
+            Err(Refusal::TooDeep) => self.push_refusal(number::TOO_DEEP),
+            Err(Refusal::NoRoom(count)) => self.push_need(number::NO_ROOM, count),
         }
     }
 
@@ -133,6 +133,7 @@ pub fn print<W: Write>(to: &mut W, bytes: &[u8]) -> Result<(), Trouble>
     ensures { IsPrinted result (W.contents to.old) (W.contents to.new) bytes.now }
 {
     let mut done = 0;
+    // It goes on by what was written, no index by one.
     while done < bytes.len() {
         let Ok(count) = to.write(&bytes[done..]) else {
             return Err(Trouble::Unwritten);
