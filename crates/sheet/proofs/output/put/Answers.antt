@@ -4,4 +4,6 @@ use Rattle.sheet.proofs.Laws.Output.{laid-put}
 use Rattle.sheet.proofs.output.put.Goals as goal
 
 pub returns : goal.returns
-returns c = record { output = rw (c.copy_from_slice.ensures.after) (laid-put _ _ _); next = refl }
+returns c =
+    let is = c.copy_from_slice.ensures.after in
+    record { output = rw is (laid-put _ _ _); next = refl }
