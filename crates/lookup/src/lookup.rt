@@ -1,4 +1,5 @@
-ghost use Rattle.std.specs.Prelude.{◌≡◌};
+ghost use Rattle.std.specs.Prelude.{◌≡◌, ◌≤◌, Ok, length};
+ghost use Rattle.lookup.specs.Drawers.{drawer_after};
 ghost use Rattle.lookup.specs.Lookup as spec;
 ghost use Rattle.lookup.specs.Lookup.{Inside};
 ghost use Rattle.lookup.specs.Promises.{Tied};
@@ -37,7 +38,16 @@ impl From<NoDrawer> for Refusal {
     }
 }
 
-// Looks a key up in the property drawer of the heading line that starts at a byte. Tries in turn: the text is over 65,536 bytes; the key is
+// The lines of the drawer of the heading whose line ends at a byte, or the refusal of a heading without one.
+fn find_lines(text: &[u8], from: usize) -> Answer
+    requires { from ≤ length text.now }
+    ensures { result ≡ spec.with_drawer (drawer_after text.now from) (λ lines. Ok lines) }
+{
+    Ok(find_drawer(text, from)?)
+}
+
+// Looks a key up in the property drawer of the heading line that starts at a byte. Each stage is left by `let .. else`, the form that document 01
+// names. Tries in turn: the text is over 65,536 bytes; the key is
 // bad; no heading line starts there; that heading has no property drawer, with the reason; no line of it has the key.
 pub fn lookup(text: &[u8], at: usize, key: &[u8]) -> Answer
     ensures value { result ≡ spec.lookup text.now at key.now }
@@ -49,9 +59,17 @@ pub fn lookup(text: &[u8], at: usize, key: &[u8]) -> Answer
     if is_bad_key(key) {
         return Err(Refusal::BadKey);
     }
-    let inner = find_heading(text, at).ok_or(Refusal::NoHeading)?;
-    let lines = find_drawer(text, inner)?;
-    find_value(text, lines.start, lines.end, key).ok_or(Refusal::NoKey)
+    let Some(inner) = find_heading(text, at) else {
+        return Err(Refusal::NoHeading);
+    };
+    let drawer = find_lines(text, inner);
+    let Ok(lines) = drawer else {
+        return drawer;
+    };
+    let Some(value) = find_value(text, lines.start, lines.end, key) else {
+        return Err(Refusal::NoKey);
+    };
+    Ok(value)
 }
 
 // The part of a text that an answer gives: the value itself, and the empty part at byte 0 where it is a refusal.

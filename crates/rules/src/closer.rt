@@ -1,12 +1,11 @@
 ghost use Rattle.std.specs.Prelude.{◌≡◌, ◌++◌, ◌≤◌, ◌<◌, length};
-ghost use Rattle.text.specs.Runs.{same, word};
-ghost use Rattle.text.specs.Parts.{part, line_in};
+ghost use Rattle.text.specs.Runs.{word};
+ghost use Rattle.text.specs.Parts.{line_in};
 ghost use Rattle.rules.specs.Findings.{KeyBytes, key_byte};
 ghost use Rattle.rules.specs.Closers.{starts_with, searched};
 
-use text::bytes::{Class, lower, run_end};
-use text::line::{line_at, line_end};
-use text::word::{begins_with, is_word};
+use text::bytes::{Class, lower, run_end, trim_end};
+use text::line::line_end;
 
 // A closing line: its start, its end, and how many lines stand before it.
 #[derive(Clone, Copy)]
@@ -23,16 +22,16 @@ pub struct Search {
     pub compared: usize,
 }
 
-// The first byte of a closer that is made of two parts, its letter made small.
-fn closer_mark(first: &[u8], second: &[u8]) -> u8
-    requires { 0 < length (first.now ++ second.now) }
-    ensures { result ≡ key_byte (first.now ++ second.now) 0 }
+// Byte j of a closer that is made of two parts, its letter made small.
+fn key_byte(first: &[u8], second: &[u8], j: usize) -> u8
+    requires { j < length (first.now ++ second.now) }
+    ensures { result ≡ key_byte (first.now ++ second.now) j }
 {
-    lower(if first.is_empty() {
-        second[0]
+    if j < first.len() {
+        lower(first[j])
     } else {
-        first[0]
-    })
+        lower(second[j - first.len()])
+    }
 }
 
 // Whether the first non-blank byte of the line at a byte is a mark.
@@ -44,47 +43,58 @@ fn starts_with(text: &[u8], at: usize, to: usize, mark: u8) -> bool
     first < to && lower(text[first]) == mark
 }
 
-// Whether a part is `first` and then `second`, case ignored.
-fn is_closer(text: &[u8], from: usize, to: usize, first: &[u8], second: &[u8]) -> bool
-    requires { (from ≤ to) × (to ≤ length text.now) }
-    ensures { result ≡ same (part text.now from to) (first.now ++ second.now) }
-{
-    begins_with(text, from, to, first) && is_word(text, from + first.len(), to, second)
-}
-
 // The first line up to an end whose body is `first` and then `second`, case ignored. Only a line whose first non-blank byte is the closer's is
 // compared further, and counted.  [01 rules 3 and 4, 02 order 3]
+// The loop over lines is left by its label, with the closer, out of an inner comparison byte by byte: the form that document 01 names.
 pub fn find_closer(text: &[u8], from: usize, to: usize, first: &[u8], second: &[u8]) -> Search
     requires { (from ≤ to) × (to ≤ length text.now) × KeyBytes (first.now ++ second.now) }
     ensures { result ≡ searched (first.now ++ second.now) text.now from to }
 {
-    let mark = closer_mark(first, second);
+    let size = first.len() + second.len();
+    let mark = key_byte(first, second, 0);
     let mut at = from;
     let mut n = 0;
     let mut compared = 0;
-    while at < to {
-        at = if starts_with(text, at, to, mark) {
-            compared += 1;
-            let line = line_at(text, at, to);
-            if is_closer(text, line.from, line.to, first, second) {
-                return Search {
-                    closer: Some(Closer {
-                        start: at,
-                        end: line.end,
-                        before: n,
-                    }),
-                    compared,
-                };
+    'lines: loop {
+        if to <= at {
+            break 'lines Search {
+                closer: None,
+                compared,
+            };
+        }
+        if !starts_with(text, at, to, mark) {
+            at = line_end(text, at, to);
+            n += 1;
+            continue;
+        }
+        compared += 1;
+        let body = run_end(text, at, to, Class::Indent);
+        let mut j = 0;
+        loop {
+            if size <= j {
+                let end = line_end(text, body + j, to);
+                if trim_end(text, body + j, end) == body + j {
+                    break 'lines Search {
+                        closer: Some(Closer {
+                            start: at,
+                            end,
+                            before: n,
+                        }),
+                        compared,
+                    };
+                }
+                break;
             }
-            line.end
-        } else {
-            line_end(text, at, to)
-        };
+            if to - body <= j {
+                break;
+            }
+            if lower(text[body + j]) != key_byte(first, second, j) {
+                break;
+            }
+            j += 1;
+        }
+        at = line_end(text, body + j, to);
         n += 1;
-    }
-    Search {
-        closer: None,
-        compared,
     }
 }
 
