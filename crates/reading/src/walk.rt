@@ -146,7 +146,7 @@ fn next_element(
     let e = parsed.element;
     let next = first_line(text, e.end, to);
     Step {
-        e: e,
+        e,
         end: next.at,
         line: number + e.own + next.lines,
         place: next_place(place, e.kind, next.at == e.end),
@@ -314,7 +314,7 @@ pub fn read_section(
         start: at,
         end: to,
         from: at,
-        to: to,
+        to,
         parent,
         detail: 0,
         line: n,
