@@ -22,10 +22,11 @@ pub fn print_table<R: Read, W: Write>(from: &mut R, to: &mut W) -> Result<(), Tr
 {
     let mut buffer = [0u8; 65536];
     let mut table = [0u32; 16384];
-    let Ok(used) = read_input(from, &mut buffer) else {
+    let input = read_input(from, &mut buffer);
+    if input.is_err() {
         return Err(Trouble::Unread);
-    };
-    print_input(to, used, &buffer, &mut table)
+    }
+    print_input(to, input, &buffer, &mut table)
 }
 
 // Does what the argument asks for.

@@ -1,4 +1,4 @@
-ghost use Rattle.std.specs.Prelude.{[], ◌∷◌, ◌++◌, ◌≡◌, ◌+◌, ◌*◌, ◌≤◌, length, IfSome};
+ghost use Rattle.std.specs.Prelude.{[], ◌∷◌, ◌++◌, ◌≡◌, ◌+◌, ◌*◌, ◌≤◌, length, IfOk, IfSome};
 ghost use Rattle.text.specs.Runs.{word};
 ghost use Rattle.text.specs.Limits.{text_limit};
 ghost use Rattle.table.specs.Records.{record_size};
@@ -11,6 +11,7 @@ use crate::page::Page;
 use crate::trouble::Trouble;
 use reading::answer::Refusal;
 use reading::read::read;
+use std::io;
 use std::io::Write;
 use table::record;
 use text::number;
@@ -114,13 +115,17 @@ impl Page {
         self.push_answer(answer, table);
     }
 
-    // What is printed for the bytes of the buffer that are in use, or for more of them. It holds the longest text, so what does not fit is too long.
-    fn push_input(&mut self, used: Option<usize>, buffer: &[u8], table: &mut [u32])
-        requires in_buffer { IfSome used (λ k. k ≤ length buffer.now) }
+    // What is printed for the bytes of the buffer that are in use, or for more of them; nothing where the input could not be read. The buffer holds the
+    // longest text, so what does not fit is too long.
+    fn push_input(&mut self, input: io::Result<Option<usize>>, buffer: &[u8], table: &mut [u32])
+        requires in_buffer { IfOk input (λ used. IfSome used (λ k. k ≤ length buffer.now)) }
         requires room { (length self.old + 50 ≤ page_size) × (length self.old + length table.old * cell_size ≤ page_size) }
-        ensures { self.new ≡ self.old ++ printed_input used buffer.now table.old }
+        ensures { self.new ≡ self.old ++ printed_input input buffer.now table.old }
     {
-        match used {
+        let Ok(fits) = input else {
+            return;
+        };
+        match fits {
             Some(used) => self.push_reading(&buffer[..used], table),
             None => self.push_refusal(number::TOO_LONG),
         }
@@ -149,16 +154,16 @@ pub fn print<W: Write>(to: &mut W, bytes: &[u8]) -> Result<(), Trouble>
 // Prints what is printed for what standard input came to, read into a table of 16,384 numbers.  [01 "What the reader covers"]
 pub fn print_input<W: Write>(
     to: &mut W,
-    used: Option<usize>,
+    input: io::Result<Option<usize>>,
     buffer: &[u8],
     table: &mut [u32],
 ) -> Result<(), Trouble>
-    requires in_buffer { IfSome used (λ k. k ≤ length buffer.now) }
+    requires in_buffer { IfOk input (λ used. IfSome used (λ k. k ≤ length buffer.now)) }
     requires buffer_len { length buffer.now ≡ text_limit }
     requires table_len { length table.old ≡ 16384 }
-    ensures { IsPrinted result (W.contents to.old) (W.contents to.new) (printed_input used buffer.now table.old) }
+    ensures { IsPrinted result (W.contents to.old) (W.contents to.new) (printed_input input buffer.now table.old) }
 {
     let mut page = Page::new();
-    page.push_input(used, buffer, table);
+    page.push_input(input, buffer, table);
     print(to, page.as_slice())
 }

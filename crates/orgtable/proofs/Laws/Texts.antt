@@ -6,7 +6,7 @@ use native.Mathlib.Omega.{arith}
 use lib.ListN.{length, take, replicate}
 use Rattle.std.proofs.lemmas.List.{length-replicate}
 use borrow.Author.Tests.{lt-leb}
-use Rattle.std.specs.Prelude.{Ok, Err, Some, None, Result}
+use Rattle.std.specs.Prelude.{Ok, Err, Some, None, Result, is_err, false}
 use Rattle.std.specs.Io.KnownBytes.{Keeps}
 use Rattle.std.specs.declared.option.Option.{Option}
 use Rattle.text.specs.Limits.{text_limit}
@@ -33,14 +33,13 @@ unfolding answer answer_for
 too_long s t h = rw (lt-leb (length s) text_limit h)
 
 -- Of a buffer that holds the longest text.
-pub printed-whole : {E : Type 0} (r : Result (Option ℕ) E) (o : Option ℕ) (known old new : Option (List ℕ)) (b : List ℕ) (w : Result Unit Trouble)
-    → length b ≡ text_limit → r ≡ Ok o → InputHolds r known b → IsPrinted w old new (printed_input o b (replicate 16384 0)) → PrintsTable w known old new
+pub printed-whole : {E : Type 0} (r : Result (Option ℕ) E) (known old new : Option (List ℕ)) (b : List ℕ) (w : Result Unit Trouble) → length b ≡ text_limit
+    → is_err r ≡ false → InputHolds r known b → IsPrinted w old new (printed_input r b (replicate 16384 0)) → PrintsTable w known old new
 unfolding InputHolds printed_input PrintsTable
-printed-whole r (Some k) None old new b w long is holds printed = (take k b, printed)
-printed-whole r (Some k) (Some s) old new b w long is holds printed = rw (rw is at holds) at printed
-printed-whole r None None old new b w long is holds printed =
+printed-whole (Err e) known old new b w long is holds printed = absurd (cc)
+printed-whole (Ok (Some k)) None old new b w long is holds printed = (take k b, printed)
+printed-whole (Ok (Some k)) (Some s) old new b w long is holds printed = rw holds at printed
+printed-whole (Ok None) None old new b w long is holds printed =
     let s = replicate (text_limit + 1) 0 in
     (s, rw (too_long s (replicate 16384 0) (omega (arith, length-replicate {A = ℕ} (text_limit + 1) 0))) printed)
-printed-whole r None (Some s) old new b w long is holds printed =
-    let longer : length b < length s = rw is at holds in
-    rw (too_long s (replicate 16384 0) (omega arith)) printed
+printed-whole (Ok None) (Some s) old new b w long is holds printed = rw (too_long s (replicate 16384 0) (omega (arith, holds, long))) printed

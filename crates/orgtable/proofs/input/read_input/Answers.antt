@@ -1,41 +1,60 @@
--- What a read does keeps the loop's invariant in `orgtable::input::read_input`, and the last read tells what the input came to. From Input.
+-- What a read does keeps the loop's invariant in `orgtable::input::read_input`, and the last one tells what the input came to. From Input.
 -- Assumes nothing.
-use Rattle.std.proofs.Common.{◌-◌, ◌≡◌, length, arith}
+use Rattle.std.proofs.Common.{◌-◌, sym, ◌∙◌, length, arith}
+use Rattle.std.specs.Prelude.{Some}
 use Rattle.std.proofs.lemmas.Slice.{take-put_mid_below}
-use Rattle.orgtable.proofs.Laws.Input.{consumes-more, length-rest, take-moved, all-read, more-left, not-read}
+use Rattle.orgtable.proofs.Laws.Input.{moves, input-within, input-holds, consumes-more, length-rest, take-moved}
 use Rattle.orgtable.proofs.input.read_input.Goals as goal
 
-pub returns-in_err-count-clause-bytes : goal.returns-in_err-count-clause-bytes
-returns-in_err-count-clause-bytes g c = not-read _ _ _ c.from_residual.ensures.0
+pub returns-in_default-clause-within : goal.returns-in_default-clause-within
+returns-in_default-clause-within g c = input-within _ _ _ _ c.input_of.ensures (omega arith)
 
-pub returns-then-count-eq0-clause-bytes : goal.returns-then-count-eq0-clause-bytes
-returns-then-count-eq0-clause-bytes g c =
+pub returns-in_default-clause-bytes : goal.returns-in_default-clause-bytes
+returns-in_default-clause-bytes g c =
     let at = c.loop-used in
-    let none = c.if-count-eq0.true in
     let rest = length-rest at.buffer at.used in
     let front = take-put_mid_below at.used (length at.buffer - at.used) at.buffer c.read.new.buf at.used (omega arith) at.invariant.0 in
-    let bytes = c.in_ok-count.ensures.bytes in
-    all-read _ _ _ _ _ _ (rw front at.invariant.1) (rw none at bytes.0) (bytes.1 none (omega (arith, c.read.auto.buf)))
+    input-holds _ _ _ _ _ _ _ _ _ _ c.input_of.ensures c.step_of-step.ensures c.read.auto.buf (omega arith) (λ k e. absurd (c.in_default.not-Ok (Some k) e))
+    (omega arith) (rw front at.invariant.1) c.read.ensures.bound c.read.ensures.bytes
+
+pub returns-in_default-more-clause-within : goal.returns-in_default-more-clause-within
+returns-in_default-more-clause-within g c = input-within _ _ _ _ c.input_of-in_default-more.ensures (omega arith)
+
+pub returns-in_default-more-clause-bytes : goal.returns-in_default-more-clause-bytes
+returns-in_default-more-clause-bytes g c =
+    let at = c.loop-used in
+    let rest = length-rest at.buffer at.used in
+    let front = take-put_mid_below at.used (length at.buffer - at.used) at.buffer c.read.new.buf at.used (omega arith) at.invariant.0 in
+    input-holds _ _ _ _ _ _ _ _ _ _ c.input_of-in_default-more.ensures (sym c.in-Ok.is ∙ c.step_of-step.ensures) c.read.auto.buf (omega arith)
+    (λ k e. absurd (c.in_default-more.not-Some k (cc))) (omega arith) (rw front at.invariant.1) c.read.ensures.bound
+    c.read.ensures.bytes
+
+pub overflow_add-used : goal.overflow_add-used
+overflow_add-used g c =
+    let at = c.loop-used in
+    let rest = length-rest at.buffer at.used in
+    let m = moves _ _ _ _ _ c.step_of-step.ensures c.in-Ok.is c.in-Some.is c.read.ensures.bound in
+    omega arith
+
+pub loop-used-smaller : goal.loop-used-smaller
+loop-used-smaller g c =
+    let rest = length-rest c.loop-used.buffer c.loop-used.used in
+    let m = moves _ _ _ _ _ c.step_of-step.ensures c.in-Ok.is c.in-Some.is c.read.ensures.bound in
+    omega arith
 
 pub loop-used-preserved : goal.loop-used-preserved
 loop-used-preserved g c =
     let at = c.loop-used in
-    let few = c.in_ok-count.ensures.bound in
     let rest = length-rest at.buffer at.used in
-    let front = take-moved at.buffer c.read.new.buf at.used (length at.buffer - at.used) c.in_ok-count.count (omega arith) (omega arith) in
-    (omega arith, rw front (consumes-more _ _ _ _ _ at.invariant.1 c.in_ok-count.ensures.bytes.0))
+    let m = moves _ _ _ _ _ c.step_of-step.ensures c.in-Ok.is c.in-Some.is c.read.ensures.bound in
+    let front = take-moved at.buffer c.read.new.buf at.used (length at.buffer - at.used) c.in-Some.count (omega arith) (omega arith) in
+    (omega arith, rw front (consumes-more _ _ _ _ _ at.invariant.1 (rw m.0 at c.read.ensures.bytes).0))
 
-pub returns-in_err-read-clause-bytes : goal.returns-in_err-read-clause-bytes
-returns-in_err-read-clause-bytes g c = not-read _ _ _ c.from_residual-in_err-read.ensures.0
-
-pub returns-then-branch-ne0-clause-bytes : goal.returns-then-branch-ne0-clause-bytes
-returns-then-branch-ne0-clause-bytes g c =
-    let at = c.loop-used in
-    let read = c.in_ok-read.ensures in
-    more-left _ _ _ _ _ _ _ _ at.invariant.0 c.loop-used-test.false read.bound.0 (omega (arith, c.if-branch-ne0.true)) at.invariant.1 read.bytes.0
+pub returns-clause-within : goal.returns-clause-within
+returns-clause-within g c = input-within _ _ _ _ c.input_of-2.ensures (omega arith)
 
 pub returns-clause-bytes : goal.returns-clause-bytes
 returns-clause-bytes g c =
-    let none : c.in_ok-read.field-0 ≡ 0 = omega (arith, c.if-branch-ne0.false) in
-    let bytes = c.in_ok-read.ensures.bytes in
-    all-read _ _ _ _ _ _ c.loop-used.invariant.1 (rw none at bytes.0) (bytes.1 none (omega (arith, c.read-2.auto.buf)))
+    let at = c.loop-used in
+    input-holds _ _ _ _ _ _ _ _ _ _ c.input_of-2.ensures c.step_of-past.ensures c.read-2.auto.buf (omega arith) (λ k e. c.loop-used-test.false)
+    (omega arith) at.invariant.1 c.read-2.ensures.bound c.read-2.ensures.bytes
