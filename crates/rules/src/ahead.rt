@@ -6,11 +6,12 @@ ghost use Rattle.rules.specs.Findings.{InScope};
 use crate::block::opened_name;
 use crate::closer::find_end;
 use crate::drawer::is_drawer_line;
-use crate::known::{closing_names, has_name};
+use crate::known::{ANY_NAME, closing_names, has_name};
 use crate::lines::LineRun;
 use crate::rule::Element;
 use crate::scope::Scope;
 use text::line::LineSpan;
+use text::word::begins_with;
 
 // All of the 63 names: they tell nothing, and are not collected again.
 const ALL_NAMES: u64 = 9223372036854775807;
@@ -46,8 +47,8 @@ pub fn ends_after(text: &[u8], line: LineSpan, scope: Scope) -> bool
     search.closer.is_some()
 }
 
-// The names that may still close a block after a line that starts no element. They are collected anew where the line opens a block whose closer
-// was sought in vain.
+// The names that may still close a block after a line that starts no element. They are collected where nothing is known and the line begins as an
+// opener does, with a name or without, and anew where it opens a block whose closer was sought in vain.
 pub fn names_after(text: &[u8], line: LineSpan, scope: Scope) -> u64
     requires { InScope text.now line scope }
     ensures { Names text.now line.end scope.end result }
@@ -55,6 +56,9 @@ pub fn names_after(text: &[u8], line: LineSpan, scope: Scope) -> u64
     let names = scope.names;
     if names == ALL_NAMES {
         return names;
+    }
+    if names == ANY_NAME && begins_with(text, line.from, line.to, b"#+begin_") {
+        return closing_names(text, line.end, scope.end);
     }
     let Some((name, to)) = opened_name(text, line, scope.end) else {
         return names;

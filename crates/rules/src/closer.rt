@@ -1,7 +1,8 @@
-ghost use Rattle.std.specs.Prelude.{◌≡◌, ◌++◌, ◌≤◌, ◌<◌, length};
+ghost use Rattle.std.specs.Prelude.{◌≡◌, ◌++◌, ◌≤◌, ◌<◌, eqb, get_or, length};
+ghost use Rattle.text.specs.Bytes as spec;
 ghost use Rattle.text.specs.Runs.{word};
 ghost use Rattle.text.specs.Parts.{line_in};
-ghost use Rattle.rules.specs.Findings.{KeyBytes, key_byte};
+ghost use Rattle.rules.specs.Findings.{KeyBytes};
 ghost use Rattle.rules.specs.Closers.{starts_with, searched};
 
 use text::bytes::{Class, lower, run_end, trim_end};
@@ -22,16 +23,24 @@ pub struct Search {
     pub compared: usize,
 }
 
-// Byte j of a closer that is made of two parts, its letter made small.
-fn key_byte(first: &[u8], second: &[u8], j: usize) -> u8
+// Byte j of a closer that is made of two parts.
+fn closer_byte(first: &[u8], second: &[u8], j: usize) -> u8
     requires { j < length (first.now ++ second.now) }
-    ensures { result ≡ key_byte (first.now ++ second.now) j }
+    ensures { result ≡ get_or (first.now ++ second.now) j 0 }
 {
     if j < first.len() {
-        lower(first[j])
+        first[j]
     } else {
-        lower(second[j - first.len()])
+        second[j - first.len()]
     }
+}
+
+// Whether two bytes are the same, case ignored. Most are the very same byte, so that is asked first.
+#[tactic(auto, using(std::proofs::lemmas::Bool::Decides::nat_tests))]
+fn is_same(a: u8, b: u8) -> bool
+    ensures { result ≡ eqb (spec.lower a) (spec.lower b) }
+{
+    a == b || lower(a) == lower(b)
 }
 
 // Whether the first non-blank byte of the line at a byte is a mark.
@@ -51,7 +60,7 @@ pub fn find_closer(text: &[u8], from: usize, to: usize, first: &[u8], second: &[
     ensures { result ≡ searched (first.now ++ second.now) text.now from to }
 {
     let size = first.len() + second.len();
-    let mark = key_byte(first, second, 0);
+    let mark = lower(closer_byte(first, second, 0));
     let mut at = from;
     let mut n = 0;
     let mut compared = 0;
@@ -88,7 +97,7 @@ pub fn find_closer(text: &[u8], from: usize, to: usize, first: &[u8], second: &[
             if to - body <= j {
                 break;
             }
-            if lower(text[body + j]) != key_byte(first, second, j) {
+            if !is_same(text[body + j], closer_byte(first, second, j)) {
                 break;
             }
             j += 1;

@@ -1,6 +1,8 @@
 // Scans for the lines of an item and of a list.  [02 order 4]
 ghost use Rattle.std.specs.Prelude.{◌≡◌, Some, ◌≤◌, length};
 ghost use Rattle.text.specs.Limits.{text_limit};
+ghost use Rattle.text.specs.Lines.{blanks};
+ghost use Rattle.text.specs.Parts.{lines_in, first_line};
 ghost use Rattle.rules.specs.Findings.{InScope};
 ghost use Rattle.rules.specs.Scans.{together_run, item_run, list_run, next_of, Tells, Stretches, LinesFrom, StartsIn, ListIn};
 
@@ -11,8 +13,8 @@ use crate::kind;
 use crate::lines::LineRun;
 use crate::place::Place;
 use crate::scope::Scope;
-use text::bytes::{Class, run_end};
-use text::line::{LineSpan, first_line, line_at, line_end};
+use text::bytes::{Class, is_nonblank, run_end};
+use text::line::{FirstLine, LineSpan, first_line, line_at, line_end};
 
 // The lines that stand or fall with a line in an item: those of the block, drawer or table that it starts; else it alone. The kinds up to a table
 // are theirs, and those of elements that are of one line, or a drawer as well.
@@ -70,12 +72,24 @@ pub struct Next {
     pub blanks: usize,
 }
 
+// The first non-blank line from a byte on, as `first_line` finds it. Mostly it is the line at the byte, which the byte after its indentation tells.
+fn first_from(text: &[u8], at: usize, to: usize) -> FirstLine
+    requires { (at ≤ to) × (to ≤ length text.now) }
+    ensures { (result.at ≡ first_line text.now at to) × (result.lines ≡ blanks (lines_in text.now at to)) }
+{
+    let body = run_end(text, at, to, Class::Indent);
+    if body < to && is_nonblank(text[body]) {
+        return FirstLine { at, lines: 0 };
+    }
+    first_line(text, at, to)
+}
+
 // The line at a byte, or after one blank line: an item or a list may go on with it. Two blank lines together end both.
 fn find_next(text: &[u8], at: usize, to: usize) -> Option<Next>
     requires { (at ≤ to) × (to ≤ length text.now) × (to ≤ text_limit) }
     ensures { result ≡ next_of text.now at to }
 {
-    let first = first_line(text, at, to);
+    let first = first_from(text, at, to);
     let start = first.at;
     if to <= start {
         return None;
@@ -129,7 +143,7 @@ fn lines_to_end(text: &[u8], from: usize, width: usize, to: usize) -> Option<Lin
     let mut at = from;
     let mut n = 0;
     loop {
-        let first = first_line(text, at, to);
+        let first = first_from(text, at, to);
         let start = first.at;
         if to <= start {
             return Some(LineRun { end: at, lines: n });

@@ -8,6 +8,12 @@ use Rattle.rules.proofs.ahead.names_after.Goals as goal
 pub returns-then-names-eq-ALL_NAMES : goal.returns-then-names-eq-ALL_NAMES
 returns-then-names-eq-ALL_NAMES c = let pre = c.requires in (knows-next _ _ _ _ _ pre.line pre.known).names
 
+pub begins_with-requires : goal.begins_with-requires
+begins_with-requires c = let o = line_of-order _ _ _ c.requires.line in (o.1, omega arith)
+
+pub closing_names-requires : goal.closing_names-requires
+closing_names-requires c = let o = line_of-order _ _ _ c.requires.line in omega arith
+
 pub opened_name-requires : goal.opened_name-requires
 opened_name-requires c = c.requires.line
 
@@ -20,5 +26,5 @@ has_name-requires c = let n = c.in-Some.ensures in omega (arith, n.some, n.end)
 pub returns-then-not-has_name : goal.returns-then-not-has_name
 returns-then-not-has_name c = let pre = c.requires in (knows-next _ _ _ _ _ pre.line pre.known).names
 
-pub closing_names-requires : goal.closing_names-requires
-closing_names-requires c = let o = line_of-order _ _ _ c.requires.line in omega arith
+pub closing_names-requires-2 : goal.closing_names-requires-2
+closing_names-requires-2 c = let o = line_of-order _ _ _ c.requires.line in omega arith

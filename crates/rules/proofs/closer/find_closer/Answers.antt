@@ -1,6 +1,10 @@
 -- `rules::closer::find_closer` meets its contract: a law for each way that a line is passed over, and one for each way out.
 -- Assumes nothing.
-use Rattle.std.proofs.Common.{◌≡◌, false, sym, ap, ◌∙◌, ◌+◌, ◌++◌, add-zero, add_assoc, length-append, arith}
+use mathlib.Core.Bool.{false≢true}
+use lib.Dec.{eqb}
+use borrow.Author.Tests.{eqb-true, eq-eqb}
+use Rattle.text.specs.Bytes.{lower}
+use Rattle.std.proofs.Common.{◌≡◌, ℕ, true, false, sym, ap, ◌∙◌, ◌+◌, ◌++◌, add-zero, add_assoc, length-append, arith}
 use Rattle.text.specs.Runs.{same}
 use Rattle.text.specs.Lines.{body}
 use Rattle.text.specs.Parts.{line_in}
@@ -13,10 +17,18 @@ use Rattle.rules.proofs.Laws.Closers.{compared-none, compared-skip, compared-pas
 use Rattle.rules.proofs.Laws.Closers.{matched-start, matched-yes, matched-no, matched-short, matched-differ, matched-step}
 use Rattle.rules.proofs.closer.find_closer.Goals as goal
 use Rattle.rules.proofs.closer.find_closer.Goals.{After-starts_with, Joined-size-j}
-use Rattle.rules.proofs.closer.find_closer.Goals.{then-size-j+else-trim_end-body, else-size-j+then-to-body, else-size-j+else-to-body+then-lower-key_byte}
+use Rattle.rules.proofs.closer.find_closer.Goals.{then-size-j+else-trim_end-body, else-size-j+then-to-body, else-size-j+else-to-body+then-not-is_same}
 
 pub lines-init : goal.lines-init
 lines-init c = (omega arith, omega arith, further-zero _, omega arith, omega arith)
+
+-- ---- two bytes
+
+same-bytes : (a b k : ℕ) → b ≡ k → eqb (lower a) (lower b) ≡ true → lower a ≡ lower k
+same-bytes a b k h t = eqb-true (lower a) (lower b) t ∙ ap lower h
+
+other-bytes : (a b k : ℕ) → b ≡ k → eqb (lower a) (lower b) ≡ false → lower a ≡ lower k → ⊥
+other-bytes a b k h t e = false≢true (sym t ∙ eq-eqb (lower a) (lower b) (e ∙ ap lower (sym h)))
 
 -- ---- the mark of the line at `at`
 
@@ -25,7 +37,7 @@ starts : (c : After-starts_with) →
     c.starts_with.result ≡ starts_with (key_byte (args.first.now ++ args.second.now) 0) (line_in args.text.now c.lines.at args.to)
 starts c =
     let args = c.args in
-    c.starts_with.ensures ∙ ap (λ m. starts_with m (line_in args.text.now c.lines.at args.to)) c.key_byte-mark.ensures
+    c.starts_with.ensures ∙ ap (λ m. starts_with m (line_in args.text.now c.lines.at args.to)) (c.lower-mark.ensures ∙ ap lower c.closer_byte.ensures)
 
 -- ---- a line without it
 
@@ -62,7 +74,7 @@ pub loop-j-preserved : goal.loop-j-preserved
 loop-j-preserved c =
     rw (← add_assoc _ _ 1)
     (matched-step _ _ _ _ _ _ c.loop-j.invariant (rw length-append (omega arith)) (omega arith) (omega arith) c.requires.2.nonblank
-    (sym c.lower.ensures ∙ c.if-lower-key_byte.false ∙ c.key_byte.ensures))
+    (same-bytes _ _ _ c.closer_byte-in-loop-j.ensures (sym c.is_same.ensures ∙ c.if-not-is_same.false)))
 
 -- where the loop over bytes is left by a plain `break`, the line is no closer
 differs : (c : Joined-size-j) →
@@ -74,9 +86,9 @@ differs c =
       | then-size-j+else-trim_end-body w ↦
           matched-no _ _ _ _ _ _ inv (rw length-append w.if-size-j.true) _ _ w.line_end-end.ensures w.trim_end.ensures w.if-trim_end-body.false
       | else-size-j+then-to-body w ↦ matched-short _ _ _ _ _ _ inv (rw length-append w.if-size-j.false) (omega (arith, w.if-to-body.true))
-      | else-size-j+else-to-body+then-lower-key_byte w ↦
+      | else-size-j+else-to-body+then-not-is_same w ↦
           matched-differ _ _ _ _ _ _ inv (rw length-append w.if-size-j.false) (omega (arith, w.if-to-body.false)) (omega arith)
-          (λ e. w.if-lower-key_byte.true (w.lower.ensures ∙ e ∙ sym w.key_byte.ensures))
+          (other-bytes _ _ _ w.closer_byte-in-loop-j.ensures (sym w.is_same.ensures ∙ w.if-not-is_same.true))
     ]
 
 pub lines-smaller : goal.lines-smaller

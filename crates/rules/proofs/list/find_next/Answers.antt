@@ -7,11 +7,11 @@ use Rattle.rules.proofs.Laws.ScanRuns.{next-end, next-two, next-line}
 use Rattle.rules.proofs.list.find_next.Goals as goal
 
 pub returns-then-to-start : goal.returns-then-to-start
-returns-then-to-start c = let first = c.first_line-first.ensures in next-end _ _ _ _ _ first.0 first.1 c.if-to-start.true
+returns-then-to-start c = let first = c.first_from-first.ensures in next-end _ _ _ _ _ first.0 first.1 c.if-to-start.true
 
 pub returns-then-first-gt1 : goal.returns-then-first-gt1
 returns-then-first-gt1 c =
-    let first = c.first_line-first.ensures in next-two _ _ _ _ _ first.0 first.1 c.if-to-start.false c.if-first-gt1.true
+    let first = c.first_from-first.ensures in next-two _ _ _ _ _ first.0 first.1 c.if-to-start.false c.if-first-gt1.true
 
 pub indent_width-requires : goal.indent_width-requires
 indent_width-requires c =
@@ -20,5 +20,5 @@ indent_width-requires c =
 
 pub returns : goal.returns
 returns c =
-    let first = c.first_line-first.ensures in
+    let first = c.first_from-first.ensures in
     next-line _ _ _ _ _ first.0 first.1 c.if-to-start.false c.if-first-gt1.false _ _ c.run_end-body.ensures c.indent_width.ensures

@@ -21,8 +21,8 @@ use Rattle.rules.proofs.list.lines_to_end.Goals as goal
 pub loop-first-init : goal.loop-first-init
 loop-first-init c = (after-start _ _ _, λ j d. rw (zero-add j) d)
 
-pub first_line-first-requires : goal.first_line-first-requires
-first_line-first-requires c =
+pub first_from-first-requires : goal.first_from-first-requires
+first_from-first-requires c =
     let pre = c.requires in
     let order = after-order pre.0 pre.1 c.loop-first.invariant.0 in
     (order.1, pre.1)
@@ -47,14 +47,14 @@ next s p e first some few body wide = next-is _ _ _ _ (next-line _ _ _ _ _ first
 pub overflow_add-n-in-loop-first : goal.overflow_add-n-in-loop-first
 overflow_add-n-in-loop-first c =
     let pre = c.requires in
-    let line = next _ _ _ c.first_line-first.ensures c.if-to-start.false c.if-first-gt1.false c.run_end-body.ensures c.indent_width.ensures in
+    let line = next _ _ _ c.first_from-first.ensures c.if-to-start.false c.if-first-gt1.false c.run_end-body.ensures c.indent_width.ensures in
     let end = c.line_end-at.ensures ∙ after-end _ _ _ _ line.body in
     omega (arith, pre.2, after-further pre.0 pre.1 c.loop-first.invariant.0 line _ end)
 
 pub loop-first-smaller : goal.loop-first-smaller
 loop-first-smaller c =
     let pre = c.requires in
-    let line = next _ _ _ c.first_line-first.ensures c.if-to-start.false c.if-first-gt1.false c.run_end-body.ensures c.indent_width.ensures in
+    let line = next _ _ _ c.first_from-first.ensures c.if-to-start.false c.if-first-gt1.false c.run_end-body.ensures c.indent_width.ensures in
     let end = c.line_end-at.ensures ∙ after-end _ _ _ _ line.body in
     omega (arith, after-further pre.0 pre.1 c.loop-first.invariant.0 line _ end)
 
@@ -63,7 +63,7 @@ loop-first-preserved c =
     let pre = c.requires in
     let inv = c.loop-first.invariant in
     let order = after-order pre.0 pre.1 inv.0 in
-    let line = next _ _ _ c.first_line-first.ensures c.if-to-start.false c.if-first-gt1.false c.run_end-body.ensures c.indent_width.ensures in
+    let line = next _ _ _ c.first_from-first.ensures c.if-to-start.false c.if-first-gt1.false c.run_end-body.ensures c.indent_width.ensures in
     let end = c.line_end-at.ensures ∙ after-end _ _ _ _ line.body in
     (after_next pre.0 pre.1 inv.0 line _ end, deep-line _ _ _ _ _ _ order.1 pre.1 inv.1 line c.if-indent_width-width.false _ end)
 
@@ -74,6 +74,6 @@ returns-then-to-start c run is =
     let pre = c.requires in
     let inv = c.loop-first.invariant in
     let order = after-order pre.0 pre.1 inv.0 in
-    let all = deep-all _ _ _ _ _ _ order.1 pre.1 inv.1 (rw c.first_line-first.ensures.0 at c.if-to-start.true) in
+    let all = deep-all _ _ _ _ _ _ order.1 pre.1 inv.1 (rw c.first_from-first.ensures.0 at c.if-to-start.true) in
     let same : run ≡ line_run c.loop-first.at c.loop-first.n = cc in
     same ∙ after-item pre.0 pre.1 inv.0 _ all

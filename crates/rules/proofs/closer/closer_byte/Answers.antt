@@ -1,4 +1,4 @@
--- `rules::closer::key_byte` meets its contract: a byte of two lists, one after the other, is one of the first or of the second.
+-- `rules::closer::closer_byte` meets its contract: a byte of two lists, one after the other, is one of the first or of the second.
 -- Assumes nothing.
 use mathlib.Core.Path.{◌≡◌, sym, ap, ◌∙◌}
 use mathlib.Core.List.{List, ◌++◌}
@@ -6,8 +6,7 @@ use Prim.Native.Nat.{ℕ, ◌+◌, ◌-◌, ◌≤◌}
 use native.Mathlib.Omega.{arith}
 use lib.ListN.{length, get_or, length-append, get_or-append}
 use lib.Seq.{get_or-append-add}
-use Rattle.text.specs.Bytes.{lower}
-use Rattle.rules.proofs.closer.key_byte.Goals as goal
+use Rattle.rules.proofs.closer.closer_byte.Goals as goal
 
 get_d-second : (x y : List ℕ) (j : ℕ) → length x ≤ j → get_or y (j - length x) 0 ≡ get_or (x ++ y) j 0
 get_d-second x y j h =
@@ -18,11 +17,7 @@ pub bounds-second-j : goal.bounds-second-j
 bounds-second-j c = let h = simp length-append at c.requires in omega arith
 
 pub returns-then-j-first : goal.returns-then-j-first
-returns-then-j-first c =
-    let args = c.args in
-    c.lower.ensures ∙ ap lower (sym (get_or-append args.first.now args.second.now 0 args.j c.if-j-first.true))
+returns-then-j-first c = let args = c.args in sym (get_or-append args.first.now args.second.now 0 args.j c.if-j-first.true)
 
 pub returns-else-j-first : goal.returns-else-j-first
-returns-else-j-first c =
-    let args = c.args in
-    c.lower-else-j-first.ensures ∙ ap lower (get_d-second args.first.now args.second.now args.j c.if-j-first.false)
+returns-else-j-first c = let args = c.args in get_d-second args.first.now args.second.now args.j c.if-j-first.false
