@@ -1,4 +1,5 @@
 ghost use Rattle.std.specs.Prelude.{◌≡◌, ◌+◌, ◌*◌, ◌≤◌, IfSome, length};
+ghost use Rattle.std.proofs.Math.Seq.{paste};
 ghost use Rattle.text.specs.Limits.{text_limit};
 ghost use Rattle.reading.specs.Walk.{state, HeadingOrEnd, NumberOf, far};
 ghost use Rattle.reading.specs.Kept.{Keeps, GoesOn};
@@ -69,4 +70,15 @@ pub fn read_on(text: &[u8], kept: Option<Kept>, table: &mut [u32], writing: bool
         line: k.line,
     };
     read_headings(text, from, k.last, table)
+}
+
+// The first numbers of a store, written to the front of a table. By a loop: with `copy_from_slice` the archive for C would need `memmove`, which a
+// caller without a C library may not have.
+pub fn copy(store: &[u32], n: usize, table: &mut [u32])
+    requires { (n ≤ length store.now) × (n ≤ length table.old) }
+    ensures { table.new ≡ paste table.old 0 store.now n }
+{
+    for i in 0..n {
+        table[i] = store[i];
+    }
 }

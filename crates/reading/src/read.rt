@@ -3,7 +3,7 @@ ghost use Rattle.text.specs.Limits.{text_limit};
 ghost use Rattle.reading.specs.Promises.{Settled};
 
 use crate::answer::Refusal;
-use crate::kept::{keep, read_on};
+use crate::kept::{copy, keep, read_on};
 use table::record;
 use text::limit;
 
@@ -53,8 +53,7 @@ fn read_with(text: &[u8], store: &mut [u32], table: &mut [u32]) -> Result<usize,
         return Err(Refusal::NoRoom(count));
     }
     if let Some(k) = kept {
-        let size = k.count * record::SIZE;
-        table[..size].copy_from_slice(&store[..size]);
+        copy(store, k.count * record::SIZE, table);
     }
     read_on(text, kept, table, true);
     Ok(count)

@@ -1,26 +1,31 @@
--- Laws of bytes laid over an output: put in their place, and one piece after another.
+-- Laws of bytes laid over an output: byte by byte, and one piece after another.
 use mathlib.Core.Path.{◌≡◌, refl, sym, ap, ◌∙◌}
 use mathlib.Core.List.{List, [], ◌∷◌, ◌++◌, append_assoc, append-nil}
 use Prim.Native.Nat.{ℕ, suc, ◌+◌, ◌-◌, ◌≤◌, ◌<◌}
 use native.Mathlib.Omega.{arith}
 use native.Mathlib.Nat.{zero-add}
-use lib.ListN.{length, take, drop, set, length-append, length-drop, drop_of_length-le, take-append-drop}
-use lib.Seq.{length-take-le, take-length, take_at, drop_at, drop-drop}
-use borrow.Rule.Slice.PartMut.{mid_of, post_of, put_mid, Post-is}
+use native.Mathlib.Numerals.{add-one}
+use lib.ListN.{length, take, drop, set, get_or, length-append, length-drop, drop_of_length-le}
+use lib.Seq.{length-take-le, take-length, take_at, drop_at, drop-drop, paste, paste-zero, paste-suc}
+use borrow.Rule.Slice.PartMut.{mid_of, post_of, put_mid}
 use Rattle.sheet.specs.Output.{laid, Puts}
 
 laid-is : (d : List ℕ) (a : ℕ) (x : List ℕ) → laid d a x ≡ take a d ++ (x ++ drop (a + length x) d)
 unfolding laid
 laid-is d a x = refl
 
--- nothing
-laid_none : (d : List ℕ) (a : ℕ) → d ≡ laid d a []
-laid_none d a = let n : a + length {A = ℕ} [] ≡ a = omega arith in rw (laid-is d a [], n) (sym (take-append-drop a d))
-
 module _ (d : List ℕ) (a : ℕ) (x : List ℕ) where
-  -- put in the place of as many bytes
-  pub laid-put : put_mid a (a + length x - a) d x ≡ laid d a x
-  laid-put = rw (laid-is d a x, Post-is a (a + length x) d (omega arith))
+  -- the first n bytes of x
+  laid-paste : (n : ℕ) → n ≤ length x → laid d a (take n x) ≡ paste d a x n
+  unfolding laid
+  laid-paste n h = rw (length-take-le n x h) (sym (append_assoc (take a d) (take n x) (drop (a + n) d)))
+
+  pub laid_none : d ≡ laid d a (take 0 x)
+  laid_none = paste-zero d a x ∙ sym (laid-paste 0 (omega arith))
+
+  pub laid-turn : (n : ℕ) → n < length x → a + length x ≤ length d → set (laid d a (take n x)) (a + n) (get_or x n 0) ≡ laid d a (take (n + 1) x)
+  laid-turn n h k =
+      rw (laid-paste n (omega arith), add-one n, laid-paste (suc n) (omega arith)) (paste-suc d a x n 0 (omega arith) h)
 
   module _ (h : a + length x ≤ length d) where
     front_length : length (take a d ++ x) ≡ a + length x
@@ -70,7 +75,7 @@ laid-length d a x h =
 
 -- nothing
 pub puts-nil : (d : List ℕ) (a : ℕ) → Puts d a [] d a
-puts-nil d a = record { output = laid_none d a; next = omega arith }
+puts-nil d a = record { output = laid_none d a []; next = omega arith }
 
 pub puts-append : {d d' d'' x y : List ℕ} {a b e : ℕ} → Puts d a x d' b → Puts d' b y d'' e → a + length x ≤ length d
     → Puts d a (x ++ y) d'' e
